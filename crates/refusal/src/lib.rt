@@ -83,7 +83,10 @@ pub impl fmt::Display for Refusal as RefusalDisplay {
     fn fmt<W: fmt::Write>(&self, f: &mut fmt::Formatter<W>) -> fmt::Result {
         match self {
             Refusal::Scratch => write!(f, "the scratch must have 1,536 bytes"),
-            Refusal::Memory => write!(f, "the cell memory must have as many items as there are cells"),
+            Refusal::Memory => write!(
+                f,
+                "the cell memory must have as many items as there are cells"
+            ),
             Refusal::Size => write!(f, "cells are set once, from 1 to 256"),
             Refusal::Chain => write!(f, "chains go from 0 to 15"),
             Refusal::Position => write!(f, "the chain ends before that position"),

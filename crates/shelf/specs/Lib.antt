@@ -1,0 +1,5 @@
+pub mod Links
+pub mod Standing
+pub mod Items
+pub mod Calls
+pub mod Past
