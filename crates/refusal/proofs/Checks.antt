@@ -1,6 +1,7 @@
 -- Going through the checks of a call: which one is told, and what is known where none is. Assumes nothing.
-use mathlib.Core.Path.{_≡_, refl, sym, ap, _∙_}
+use mathlib.Core.Path.{_≡_, refl, sym, ap, subst, _∙_}
 use mathlib.Core.Bool.{Bool, true, false, cond}
+use mathlib.Core.List.{List, [], _∷_, _++_}
 use Prim.Native.Nat.{ℕ}
 use native.Mathlib.Omega.{arith}
 use Rattle.std.specs.declared.option.Option.{Option}
@@ -8,7 +9,7 @@ use Rattle.std.specs.declared.option.Option.the-variants.{None, Some}
 use Rattle.std.specs.declared.result.Result.{Result}
 use Rattle.std.specs.declared.result.Result.the-variants.{Ok, Err}
 use Rattle.std.proofs.shelf.Tests.{cond-true, cond-false}
-use Rattle.refusal.specs.Checks.{refusal}
+use Rattle.refusal.specs.Checks.{first, refusal, Answers}
 use Rattle.refusal.specs.declared.Refusal.{Refusal}
 
 -- a check that is due tells its refusal
@@ -24,7 +25,23 @@ pub none-due : (b : Bool) (e : Refusal) (rest : Option Refusal) → None ≡ con
 none-due true e rest none = let z : _≡_ {A = ℕ} 0 1 = cc in absurd (omega arith)
 none-due false e rest none = (refl, none)
 
+-- what is told by the checks that come first is told by all
+pub told-early : (e : Refusal) (checks more : List (Bool × Refusal)) → Some e ≡ first checks → Some e ≡ first (checks ++ more)
+told-early e [] more told = let z : _≡_ {A = ℕ} 0 1 = cc in absurd (omega arith)
+told-early e (check ∷ checks) more told = go (check .0) (told-early e checks more) told
+  where
+    go : (b : Bool) → (Some e ≡ first checks → Some e ≡ first (checks ++ more)) → Some e ≡ cond b (Some (check .1)) (first checks) → Some e ≡ cond b (Some (check .1)) (first (checks ++ more))
+    go true later told = told
+    go false later told = later told
+
 -- the refusal of an answer is the answer, where there is one
 pub refusal-err : {A : Type 0} (r : Result A Refusal) (e : Refusal) → refusal r ≡ Some e → r ≡ Err e
 refusal-err (Ok x) e told = let z : _≡_ {A = ℕ} 0 1 = cc in absurd (omega arith)
 refusal-err (Err f) e told = cc
+
+-- a call that passes on what its first checks refuse has answered
+pub answers-early : {A : Type 0} (checks more : List (Bool × Refusal)) (r : Result A Refusal) (e f : Refusal) (accepted : A → Type 0) (refused : Type 0) →
+    r ≡ Err f → f ≡ e → Some e ≡ first checks → refused → Answers (checks ++ more) r accepted refused
+answers-early checks more r e f accepted refused is same told kept =
+    let P : Result _ Refusal → Type 0 = λ r. Answers (checks ++ more) r accepted refused in
+    subst P (sym (is ∙ ap Err same)) (record { told = told-early e checks more told; holds = kept })

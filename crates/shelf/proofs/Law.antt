@@ -15,47 +15,14 @@ use Rattle.std.proofs.shelf.Tests.{cases-eq, cases-lt, eq-eqb, ne-eqb, eqb-true
 use Rattle.refusal.specs.Checks.{Answers, first, refusal}
 use Rattle.refusal.specs.declared.Refusal.{Refusal}
 use Rattle.refusal.specs.declared.Refusal.the-variants.{Memory, Chain, Position, Cells}
-use Rattle.refusal.proofs.Checks.{told-here, told-later, none-due, refusal-err}
+use Rattle.refusal.proofs.Checks.{told-here}
 use Rattle.shelf.specs.Standing.{Standing, total, free}
 use Rattle.shelf.specs.Items.{items-at, list, Below}
 use Rattle.shelf.specs.Calls.{append-checks, read-checks, Empty, Grown, Emptied, Sizing, Append, Read, Drop}
 use Rattle.shelf.specs.Past.{Call, append, read, drop, left, room, Exactly-when, Append-due, Read-due, Lawful, Shown, its-own, another, Ran, starts, appends, reads, drops, Law-after, Law, Adds-append, Adds-read, Adds-drop}
+use Rattle.shelf.proofs.Access.{third-exactly, passed}
 use Rattle.shelf.proofs.Pick.{length-items, below-append}
 use Rattle.shelf.proofs.Totals.{total-same, total-none, total-raised, total-fallen}
-
--- ---- the checks of a call, read back
-
--- a call whose chain and memory are right meets the third check alone
-module _ {size shown c : ℕ} (low : c < 16) (whole : shown ≡ size) where
-  chain-clear : ltb 15 c ≡ false
-  chain-clear = le-ltb 15 c (omega arith)
-
-  memory-clear : not (eqb shown size) ≡ false
-  memory-clear = ap not (eq-eqb shown size whole)
-
-  abbrev checks : Bool → Refusal → List (Bool × Refusal)
-  checks b e = (ltb 15 c, Chain) ∷ (not (eqb shown size), Memory) ∷ (b, e) ∷ []
-
-  pub third-due : (b : Bool) (e : Refusal) → b ≡ true → Some e ≡ first (checks b e)
-  third-due b e due = told-later _ _ _ _ chain-clear (told-later _ _ _ _ memory-clear (told-here _ _ _ due))
-
-  pub third-clear : (b : Bool) (e : Refusal) → b ≡ false → None ≡ first (checks b e)
-  third-clear b e clear = told-later _ _ _ _ chain-clear (told-later _ _ _ _ memory-clear (told-later _ _ _ _ clear refl))
-
-  -- it tells that exactly where it is due
-  pub third-exactly : {A : Type 0} (r : Result A Refusal) (b : Bool) (e : Refusal) → refusal r ≡ first (checks b e) → Exactly-when (r ≡ Err e) (b ≡ true)
-  third-exactly r b e told = (
-    λ is. elim (cases-bool b) [ inl t ↦ t | inr f ↦ (let one = ap refusal is in let two = third-clear b e f in let z : _≡_ {A = ℕ} 0 1 = cc in absurd (omega arith)) ],
-    λ due. refusal-err r e (told ∙ sym (third-due b e due)),
-  )
-
--- where nothing is told, all three are passed
-pub passed : (size shown c : ℕ) (b : Bool) (e : Refusal) → None ≡ first ((ltb 15 c, Chain) ∷ (not (eqb shown size), Memory) ∷ (b, e) ∷ []) → (c < 16) × (shown ≡ size) × (b ≡ false)
-passed size shown c b e none =
-    let one = none-due _ _ _ none in
-    let two = none-due _ _ _ (one .1) in
-    let three = none-due _ _ _ (two .1) in
-    (omega (arith, ltb-false 15 c (one .0)), eqb-true shown size (not-false (eqb shown size) (two .0)), three .0)
 
 -- ---- what a past says of the shelf and its memory
 

@@ -29,11 +29,17 @@ pub record Empty (n : ℕ) (s : Standing) : Type 0 where
 abbrev pub Sizing : Standing → ℕ → Result (Unit {0}) Refusal → Standing → Type 0
 Sizing s n r s′ = Answers (size-checks (s .size) n) r (λ _. Empty n s′) (s′ ≡ s)
 
+-- ---- what every call on a chain in cell memory checks first
+
+-- of a shelf of `size` cells: chain c, in memory of `shown` items
+abbrev pub access-checks : (size shown c : ℕ) → List (Bool × Refusal)
+access-checks size shown c = (ltb 15 c, Chain) ∷ (not (eqb shown size), Memory) ∷ []
+
 -- ---- append
 
--- of a shelf of `size` cells, `room` of them free: `count` items go to chain c, in memory of `shown` items
+-- and then: `count` items, where `room` cells are free
 abbrev pub append-checks : (size room shown c count : ℕ) → List (Bool × Refusal)
-append-checks size room shown c count = (ltb 15 c, Chain) ∷ (not (eqb shown size), Memory) ∷ (ltb room count, Cells) ∷ []
+append-checks size room shown c count = access-checks size shown c ++ ((ltb room count, Cells) ∷ [])
 
 -- what an accepted append leaves; which free cells it took is left open
 pub record Grown {T : Type 0} (s : Standing) (cells : List T) (c : ℕ) (items : List T) (s′ : Standing) (cells′ : List T) : Type 0 where
@@ -59,18 +65,18 @@ Append s cells c items r s′ cells′ =
 
 -- ---- read
 
--- of a shelf of `size` cells: position p of chain c, which has `long` items, in memory of `shown` items
+-- and then: position p of a chain that has `long` items
 abbrev pub read-checks : (size long shown c p : ℕ) → List (Bool × Refusal)
-read-checks size long shown c p = (ltb 15 c, Chain) ∷ (not (eqb shown size), Memory) ∷ (leb long p, Position) ∷ []
+read-checks size long shown c p = access-checks size shown c ++ ((leb long p, Position) ∷ [])
 
 abbrev pub Read : {T : Type 0} → Standing → List T → ℕ → ℕ → Result T Refusal → Type 0
 Read s cells c p r = Answers (read-checks (s .size) (length (s .chain c)) (length cells) c p) r (λ x. nth (list s cells c) p ≡ Some x) (Unit {0})
 
 -- ---- gather
 
--- of a shelf of `size` cells: all of chain c, which has `long` items, from memory of `shown` items to `room` places
+-- and then: a whole chain that has `long` items, to `room` places
 abbrev pub gather-checks : (size long shown c room : ℕ) → List (Bool × Refusal)
-gather-checks size long shown c room = (ltb 15 c, Chain) ∷ (not (eqb shown size), Memory) ∷ (ltb room long, Output) ∷ []
+gather-checks size long shown c room = access-checks size shown c ++ ((ltb room long, Output) ∷ [])
 
 -- n items in all: the chain's, in order, and behind them what was there
 abbrev pub Gather : {T : Type 0} → Standing → List T → ℕ → List T → Result ℕ Refusal → List T → Type 0

@@ -7,7 +7,8 @@ ghost use Prim.Native.Nat.{ℕ};
 ghost use Rattle.std.specs.Results.{isErr};
 ghost use Rattle.std.specs.declared.result.Result.the-variants.{Ok};
 ghost use Rattle.shelf.specs.Standing.{standing, free as «free-cells»};
-ghost use Rattle.shelf.specs.Calls.{Empty, Sizing, Append, Read, Gather, Drop as Dropping};
+ghost use Rattle.refusal.specs.Checks.{first, refusal};
+ghost use Rattle.shelf.specs.Calls.{access-checks, Empty, Sizing, Append, Read, Gather, Drop as Dropping};
 ghost use Rattle.shelf.specs.Past.{Law, Ran, Adds-append, Adds-read, Adds-drop};
 use super::book::ChainBook;
 use super::links::CHAINS;
@@ -48,18 +49,26 @@ impl<T: Copy> Shelf<T> {
         self.book.free()
     }
 
+    // What every call on a chain in cell memory checks first: the chain, and then how many items the memory has.
+    fn admit(&self, chain: usize, shown: usize) -> Result<(), Refusal>
+        ensures { λ r. ⌜ refusal r ≡ first (access-checks (now (self .entry) .book .size) shown chain) ⌝ }
+    {
+        if chain >= CHAINS {
+            return Err(Refusal::Chain);
+        }
+        if shown != self.book.size as usize {
+            return Err(Refusal::Memory);
+        }
+        Ok(())
+    }
+
     // Adds items at the end of a chain, in the order given: all of them or none.
     pub fn append(&mut self, cells: &mut [T], chain: usize, items: &[T]) -> Result<(), Refusal>
         ensures outcome { λ r. ⌜ Append (standing (now (self .entry) .book)) (now (cells .entry)) chain (now (items .entry)) r (standing (now (self .exit) .book)) (now (cells .exit)) ⌝ }
         ensures kept { λ r. ⌜ (isErr r ≡ true → now (self .exit) ≡ now (self .entry)) ⌝ }
         ensures past { λ r. ⌜ Adds-append (standing (now (self .entry) .book)) (now (cells .entry)) chain (now (items .entry)) r (standing (now (self .exit) .book)) (now (cells .exit)) ⌝ }
     {
-        if chain >= CHAINS {
-            return Err(Refusal::Chain);
-        }
-        if cells.len() != self.book.size as usize {
-            return Err(Refusal::Memory);
-        }
+        self.admit(chain, cells.len())?;
         if self.book.free() < items.len() {
             return Err(Refusal::Cells);
         }
@@ -75,12 +84,7 @@ impl<T: Copy> Shelf<T> {
         ensures outcome { λ r. ⌜ Read (standing (now (self .entry) .book)) (now (cells .entry)) chain position r ⌝ }
         ensures past { λ r. ⌜ Adds-read (standing (now (self .entry) .book)) (now (cells .entry)) chain position r ⌝ }
     {
-        if chain >= CHAINS {
-            return Err(Refusal::Chain);
-        }
-        if cells.len() != self.book.size as usize {
-            return Err(Refusal::Memory);
-        }
+        self.admit(chain, cells.len())?;
         if position >= self.book.count(chain) {
             return Err(Refusal::Position);
         }
@@ -91,12 +95,7 @@ impl<T: Copy> Shelf<T> {
     pub fn gather(&self, cells: &[T], chain: usize, out: &mut [T]) -> Result<usize, Refusal>
         ensures { λ r. ⌜ Gather (standing (now (self .entry) .book)) (now (cells .entry)) chain (now (out .entry)) r (now (out .exit)) ⌝ }
     {
-        if chain >= CHAINS {
-            return Err(Refusal::Chain);
-        }
-        if cells.len() != self.book.size as usize {
-            return Err(Refusal::Memory);
-        }
+        self.admit(chain, cells.len())?;
         let count = self.book.count(chain);
         if out.len() < count {
             return Err(Refusal::Output);
