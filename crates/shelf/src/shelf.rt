@@ -114,10 +114,10 @@ impl<T: Copy> Shelf<T> {
         ensures kept { λ r. ⌜ (isErr r ≡ true → now (self .exit) ≡ now (self .entry)) ⌝ }
         ensures past { λ r. ⌜ Adds-drop T (standing (now (self .entry) .book)) chain r (standing (now (self .exit) .book)) ⌝ }
     {
-        if chain >= CHAINS {
-            return Err(Refusal::Chain);
+        if chain < CHAINS {
+            self.book.clear(chain);
+            return Ok(());
         }
-        self.book.clear(chain);
-        Ok(())
+        Err(Refusal::Chain)
     }
 }

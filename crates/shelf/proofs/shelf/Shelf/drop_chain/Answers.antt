@@ -9,14 +9,14 @@ use Rattle.shelf.specs.Calls.{Drop}
 use Rattle.shelf.proofs.Law.{adds-drop}
 use Rattle.shelf.proofs.shelf.Shelf.drop_chain.Needs as need
 
-pub returns-then-chain-ge-CHAINS : need.returns-then-chain-ge-CHAINS
-returns-then-chain-ge-CHAINS g c =
+pub returns : need.returns
+returns g c =
     let s = standing (c .args .self .now .book) in
     let did : Drop s (c .args .chain) (Err Chain) s = record { told = told-here _ _ _ (lt-ltb 15 (c .args .chain) (omega arith)); holds = refl } in
     record { outcome = did; kept = λ _. refl; past = adds-drop s (c .args .chain) (Err Chain) s did }
 
-pub returns : need.returns
-returns g c =
+pub returns-then-chain-lt-CHAINS : need.returns-then-chain-lt-CHAINS
+returns-then-chain-lt-CHAINS g c =
     let s = standing (c .args .self .now .book) in
     let s′ = standing (c .clear .last .self) in
     let did : Drop s (c .args .chain) (Ok tt) s′ = record { told = told-later _ _ _ _ (le-ltb 15 (c .args .chain) (omega arith)) refl; holds = c .clear .ensures } in
