@@ -34,6 +34,15 @@ told-early e (check ∷ checks) more told = go (check .0) (told-early e checks m
     go true later told = told
     go false later told = later told
 
+-- where the checks that come first are not due, the others tell
+pub told-after : (checks more : List (Bool × Refusal)) → first checks ≡ None → first (checks ++ more) ≡ first more
+told-after [] more none = refl
+told-after (check ∷ checks) more none = go (check .0) (told-after checks more) none
+  where
+    go : (b : Bool) → (first checks ≡ None → first (checks ++ more) ≡ first more) → cond b (Some (check .1)) (first checks) ≡ None → cond b (Some (check .1)) (first (checks ++ more)) ≡ first more
+    go true later none = let z : _≡_ {A = ℕ} 0 1 = cc in absurd (omega arith)
+    go false later none = later none
+
 -- the refusal of an answer is the answer, where there is one
 pub refusal-err : {A : Type 0} (r : Result A Refusal) (e : Refusal) → refusal r ≡ Some e → r ≡ Err e
 refusal-err (Ok x) e told = let z : _≡_ {A = ℕ} 0 1 = cc in absurd (omega arith)
