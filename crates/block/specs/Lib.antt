@@ -1,0 +1,3 @@
+pub mod Bytes
+pub mod Table
+pub mod Words

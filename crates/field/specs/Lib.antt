@@ -1,0 +1,4 @@
+pub mod Byte
+pub mod Laws
+pub mod Matrix
+pub mod Known
