@@ -1,0 +1,6 @@
+use Rattle.field.specs.Known.{m4}
+use Rattle.mkv.proofs.Mkv128Kit.expand.Needs as need
+
+pub returns : need.returns
+unfolding m4
+returns c = c .expand-with .ensures
