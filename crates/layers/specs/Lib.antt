@@ -1,0 +1,3 @@
+pub mod Depth
+pub mod Whitened
+pub mod Cascaded
