@@ -1,0 +1,9 @@
+pub mod Joining
+pub mod Paddings
+pub mod Pieces
+pub mod Blocks
+pub mod Cuts
+pub mod Sent
+pub mod Alike
+pub mod Received
+pub mod Counts

@@ -1,0 +1,5 @@
+pub mod Join
+pub mod Padding
+pub mod Modes
+pub mod Machine
+pub mod Laws
