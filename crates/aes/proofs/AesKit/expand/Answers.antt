@@ -8,7 +8,7 @@ use Rattle.aes.proofs.AesKit.expand.Goals as goal
 pub write-schedule-requires : goal.write-schedule-requires
 write-schedule-requires c =
     let p = c.in-ok--rounds.ensures.passed in
-    let t = taken (length c.args.key.now) c.in-ok--rounds.-rounds p.0 in
+    let t = taken (length c.args.key.now) c.in-ok--rounds._rounds p.0 in
     record { some = omega (arith, t.low); words = (t.whole, omega (arith, p.1)); room = omega (arith, p.1, t.words, t.whole) }
 
 pub returns : goal.returns
@@ -16,7 +16,7 @@ unfolding round_keys
 returns c =
     let key = c.args.key.now in
     let out = c.args.schedule.now in
-    let r = c.in-ok--rounds.-rounds in
+    let r = c.in-ok--rounds._rounds in
     let outcome = c.in-ok--rounds.ensures.outcome in
     let p = c.in-ok--rounds.ensures.passed in
     let all : length out / 4 ≡ 4 * (r + 1) = omega (arith, p.1) in
