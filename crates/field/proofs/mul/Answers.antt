@@ -22,7 +22,7 @@ loop-i-preserved c =
           let even : l.rest % 2 ≡ 0 = omega arith in
           w.sum-is ∙ sym (xor_zero_r l.sum) ∙ ap (λ d. bit_xor l.sum (sel d l.power)) (sym even)
     ] in
-    ap₂ bit_xor added (ap (λ x. mul_digits (8 - (l._i + 1)) p x (l.rest / 2)) c.times-x-power.ensures)
+    ap₂ bit_xor added (ap (λ x. mul_digits (8 - (l._i + 1)) p x (l.rest / 2)) c.times_x-power.ensures)
     ∙ xor_assoc l.sum (sel (l.rest % 2) l.power) m
     ∙ ap (bit_xor l.sum) (sym (mul_more l._i p l.power l.rest (omega arith)))
     ∙ l.invariant
