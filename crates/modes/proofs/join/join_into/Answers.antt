@@ -3,4 +3,4 @@ use Rattle.modes.proofs.join.join_into.Goals as goal
 
 pub returns : goal.returns
 unfolding join
-returns c = c.xor-into.ensures
+returns c = c.xor_into.ensures

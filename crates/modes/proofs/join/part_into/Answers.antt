@@ -3,4 +3,4 @@ use Rattle.modes.proofs.join.part_into.Goals as goal
 
 pub returns : goal.returns
 unfolding part
-returns c = c.xor-into.ensures
+returns c = c.xor_into.ensures

@@ -12,7 +12,7 @@ loop-i-preserved c =
     let b = c.args.block.now in
     let n = c.args.from in
     over_more (padded_from n b) b c.loop-i.block c.loop-i.i _ c.loop-i.invariant (omega arith) (length_padded_from n b)
-    (c.padding-byte.ensures ∙ sym (padded_at n b c.loop-i.i (omega arith) (omega arith)))
+    (c.padding_byte.ensures ∙ sym (padded_at n b c.loop-i.i (omega arith) (omega arith)))
 
 pub returns : goal.returns
 returns c =
