@@ -38,7 +38,7 @@ overflow-mul-due c = omega (arith, c.count-count.ensures.cells, places_few c.arg
 pub returns-then-out-due : goal.returns-then-out-due
 returns-then-out-due c =
     let b = c.args.self.now.book in
-    let ok = admitted b.size (length c.args.cells.now) c.args.chain c.in-ok-admit.ensures in
+    let ok = admitted b.size (length c.args.cells.now) c.args.chain c.in_ok-admit.ensures in
     record { told = third_due ok.0 ok.1 _ _ (lt-ltb (length c.args.out.now) _ (omega (arith, c.count-count.ensures.cells))); holds = refl }
 
 pub loop-i-init : goal.loop-i-init
@@ -47,7 +47,7 @@ loop-i-init c = (sym joined_none, refl, c.start-cell.ensures)
 pub bounds-cells-cell : goal.bounds-cells-cell
 bounds-cells-cell c =
     let b = c.args.self.now.book in
-    let ok = admitted b.size (length c.args.cells.now) c.args.chain c.in-ok-admit.ensures in
+    let ok = admitted b.size (length c.args.cells.now) c.args.chain c.in_ok-admit.ensures in
     let row : c.loop-i.i < get_or b.len c.args.chain 0 = omega (arith, c.count-count.ensures.row) in
     omega (arith, c.loop-i.invariant.2, inside b c.args.chain c.loop-i.i (length c.args.cells.now) ok.0 row ok.1)
 
@@ -56,19 +56,19 @@ loop-i-preserved c =
     let b = c.args.self.now.book in
     let cells = c.args.cells.now in
     let chain = c.args.chain in
-    let ok = admitted b.size (length cells) chain c.in-ok-admit.ensures in
+    let ok = admitted b.size (length cells) chain c.in_ok-admit.ensures in
     let i = c.loop-i.i in
     let out = c.loop-i.out in
-    let x = c.copy-from-slice.new.self in
+    let x = c.copy_from_slice.new.self in
     let ks = places b chain in
     let inv = c.loop-i.invariant in
     let row : i < get_or b.len chain 0 = omega (arith, c.count-count.ensures.row) in
     let here : i < length ks = omega (arith, c.count-count.ensures.cells) in
     let room : 16 * i + 16 ≤ length out = omega arith in
-    let wide : length x ≡ 16 = omega (arith, c.copy-from-slice.ensures.len, length-between out (16 * i) (16 * i + 16) room) in
+    let wide : length x ≡ 16 = omega (arith, c.copy_from_slice.ensures.len, length-between out (16 * i) (16 * i + 16) room) in
     let within : c.loop-i.cell < length cells = omega (arith, inv.2, inside b chain i (length cells) ok.0 row ok.1) in
     let read : x ≡ get_or cells (get_or ks i 0) x =
-    c.copy-from-slice.ensures.after ∙ get_or_default cells c.loop-i.cell [] x within ∙ ap (λ k. get_or cells k x) (inv.2 ∙ place b chain i (length cells) ok.0 row ok.1) in
+    c.copy_from_slice.ensures.after ∙ get_or_default cells c.loop-i.cell [] x within ∙ ap (λ k. get_or cells k x) (inv.2 ∙ place b chain i (length cells) ok.0 row ok.1) in
     let below : Below (length cells) ks = rw ok.1 (below_places b chain (omega (arith, ok.0))) in (
       take_written out x i room wide ∙ ap (λ xs. xs ++ x) inv.0 ∙ sym (joined_push (items_at cells (take i ks)) x) ∙ ap joined (sym (items_more cells ks i x below here read)),
       drop_written out x i room wide c.args.out.now inv.1,
@@ -79,7 +79,7 @@ pub returns : goal.returns
 returns c =
     let b = c.args.self.now.book in
     let cells = c.args.cells.now in
-    let ok = admitted b.size (length cells) c.args.chain c.in-ok-admit.ensures in
+    let ok = admitted b.size (length cells) c.args.chain c.in_ok-admit.ensures in
     let ks = places b c.args.chain in
     let i = c.loop-i.i in
     let out = c.loop-i.out in

@@ -24,7 +24,7 @@ returns-in-err-admit g c =
 pub returns-then-free-items : goal.returns-then-free-items
 returns-then-free-items g c =
     let b = c.args.self.now.book in
-    let ok = admitted b.size (length c.args.cells.now) c.args.chain c.in-ok-admit.ensures in
+    let ok = admitted b.size (length c.args.cells.now) c.args.chain c.in_ok-admit.ensures in
     let s = standing c.args.self.now.book in
     let did : Append s c.args.cells.now c.args.chain c.args.items.now (Err Cells) s c.args.cells.now = record { told = third_due ok.0 ok.1 _ _ (lt-ltb (free s) (length c.args.items.now) (omega (arith, c.free.ensures.cells))); holds = (refl, refl) } in
     record { outcome = did; kept = λ _. refl; past = adds_append s _ _ _ _ s _ did }
@@ -33,12 +33,12 @@ pub loop-i-init : goal.loop-i-init
 loop-i-init g c = (grown_none (standing c.args.self.now.book) c.args.cells.now c.args.chain, omega arith, omega arith)
 
 pub link-cell-requires : goal.link-cell-requires
-link-cell-requires g c = ((admitted c.args.self.now.book.size (length c.args.cells.now) c.args.chain c.in-ok-admit.ensures).0, omega (arith, c.loop-i.invariant.1, c.free.ensures.row))
+link-cell-requires g c = ((admitted c.args.self.now.book.size (length c.args.cells.now) c.args.chain c.in_ok-admit.ensures).0, omega (arith, c.loop-i.invariant.1, c.free.ensures.row))
 
 pub loop-i-preserved : goal.loop-i-preserved
 loop-i-preserved g c =
     let b = c.args.self.now.book in
-    let ok = admitted b.size (length c.args.cells.now) c.args.chain c.in-ok-admit.ensures in
+    let ok = admitted b.size (length c.args.cells.now) c.args.chain c.in_ok-admit.ensures in
     let items = c.args.items.now in
     let i = c.loop-i.i in
     let x = c.index-items-i.result in
@@ -53,7 +53,7 @@ loop-i-preserved g c =
 pub returns : goal.returns
 returns g c =
     let b = c.args.self.now.book in
-    let ok = admitted b.size (length c.args.cells.now) c.args.chain c.in-ok-admit.ensures in
+    let ok = admitted b.size (length c.args.cells.now) c.args.chain c.in_ok-admit.ensures in
     let items = c.args.items.now in
     let s = standing c.args.self.now.book in
     let all : take c.loop-i.i items ≡ items = take_all c.loop-i.i items (omega arith) in

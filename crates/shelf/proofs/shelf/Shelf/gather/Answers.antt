@@ -22,7 +22,7 @@ returns-in-err-admit g c =
 pub returns-then-out-count : goal.returns-then-out-count
 returns-then-out-count g c =
     let b = c.args.self.now.book in
-    let ok = admitted b.size (length c.args.cells.now) c.args.chain c.in-ok-admit.ensures in
+    let ok = admitted b.size (length c.args.cells.now) c.args.chain c.in_ok-admit.ensures in
     record { told = third_due ok.0 ok.1 _ _ (lt-ltb (length c.args.out.now) _ (omega (arith, c.count-count.ensures.cells))); holds = refl }
 
 -- every cell of the chain lies in the memory
@@ -32,7 +32,7 @@ below b chain n h whole = rw whole (below_places b chain (omega arith))
 pub loop-i-preserved : goal.loop-i-preserved
 loop-i-preserved g c =
     let b = c.args.self.now.book in
-    let ok = admitted b.size (length c.args.cells.now) c.args.chain c.in-ok-admit.ensures in
+    let ok = admitted b.size (length c.args.cells.now) c.args.chain c.in_ok-admit.ensures in
     let i = c.loop-i.i in
     let out = c.loop-i.out in
     let x = c.index-cells-cell.result in
@@ -51,7 +51,7 @@ loop-i-preserved g c =
 pub returns : goal.returns
 returns g c =
     let b = c.args.self.now.book in
-    let ok = admitted b.size (length c.args.cells.now) c.args.chain c.in-ok-admit.ensures in
+    let ok = admitted b.size (length c.args.cells.now) c.args.chain c.in_ok-admit.ensures in
     let ks = places b c.args.chain in
     let cells = c.args.cells.now in
     let out = c.loop-i.out in

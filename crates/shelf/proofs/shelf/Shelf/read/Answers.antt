@@ -24,7 +24,7 @@ returns-in-err-admit g c =
 pub returns-then-position-count : goal.returns-then-position-count
 returns-then-position-count g c =
     let b = c.args.self.now.book in
-    let ok = admitted b.size (length c.args.cells.now) c.args.chain c.in-ok-admit.ensures in
+    let ok = admitted b.size (length c.args.cells.now) c.args.chain c.in_ok-admit.ensures in
     let s = standing c.args.self.now.book in
     let did : Read s c.args.cells.now c.args.chain c.args.position (Err Position) =
     record { told = third_due ok.0 ok.1 _ _ (le-leb _ c.args.position (omega (arith, c.count.ensures.cells))); holds = tt } in
@@ -33,12 +33,12 @@ returns-then-position-count g c =
 pub returns : goal.returns
 returns g c =
     let b = c.args.self.now.book in
-    let ok = admitted b.size (length c.args.cells.now) c.args.chain c.in-ok-admit.ensures in
+    let ok = admitted b.size (length c.args.cells.now) c.args.chain c.in_ok-admit.ensures in
     let ks = places b c.args.chain in
     let cells = c.args.cells.now in
     let below : Below (length cells) ks = rw ok.1 (below_places b c.args.chain (omega (arith, ok.0))) in
     let lt : c.args.position < length ks = omega (arith, c.count.ensures.cells) in
-    let at = c.index-cells-cell-at.is ∙ ap (λ k. get_or cells k c.index-cells-cell-at.result) c.cell-at.ensures.place in
-    let did : Read (standing b) cells c.args.chain c.args.position (Ok c.index-cells-cell-at.result) =
+    let at = c.index-cells-cell_at.is ∙ ap (λ k. get_or cells k c.index-cells-cell_at.result) c.cell_at.ensures.place in
+    let did : Read (standing b) cells c.args.chain c.args.position (Ok c.index-cells-cell_at.result) =
     record { told = third_clear ok.0 ok.1 _ _ (lt-leb (length ks) c.args.position lt); holds = nth_items cells ks c.args.position _ below lt at } in
     record { outcome = did; past = adds_read (standing b) _ _ _ _ did }
