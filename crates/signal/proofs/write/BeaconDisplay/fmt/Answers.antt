@@ -7,9 +7,9 @@ use Rattle.signal.proofs.write.BeaconDisplay.fmt.Goals as goal
 pub returns-clause-writes : goal.returns-clause-writes
 unfolding hex
 returns-clause-writes g c plain ok =
-    let a = c.hex-digit-a.ensures in
-    let b = c.hex-digit-b.ensures in
-    let c₂ = c.hex-digit-c.ensures in
+    let a = c.hex_digit-a.ensures in
+    let b = c.hex_digit-b.ensures in
+    let c₂ = c.hex_digit-c.ensures in
     let d = c.hex-digit-d.ensures in
     let e = c.hex-digit-e.ensures in
     let f = c.hex-digit-g.ensures in
