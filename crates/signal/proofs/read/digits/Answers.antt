@@ -37,6 +37,6 @@ returns c =
     let i : c.loop-b.b-index ≡ length c.args.text.now = omega arith in
     let some : 0 < length c.args.text.now = search rules in
     record {
-      value = (((some, subst (AllDigits c.args.base) e c.loop-b.invariant.1), c.if-text-gt-MOST-DIGITS.false), c.loop-b.invariant.0 ∙ ap (digits_value c.args.base) e);
+      value = (((some, subst (AllDigits c.args.base) e c.loop-b.invariant.1), c.if-text-gt-MOST_DIGITS.false), c.loop-b.invariant.0 ∙ ap (digits_value c.args.base) e);
       bound = subst (λ k. c.loop-b.n < 16 ^ k) i c.loop-b.invariant.2;
     }

@@ -7,12 +7,12 @@ use Rattle.signal.proofs.write.BeaconDisplay.fmt.Goals as goal
 pub returns-clause-writes : goal.returns-clause-writes
 unfolding hex
 returns-clause-writes g c plain ok =
-    let a = c.hex-digit-a.ensures in
-    let b = c.hex-digit-b.ensures in
-    let c₂ = c.hex-digit-c.ensures in
-    let d = c.hex-digit-d.ensures in
-    let e = c.hex-digit-e.ensures in
-    let f = c.hex-digit-g.ensures in
+    let a = c.hex_digit-a.ensures in
+    let b = c.hex_digit-b.ensures in
+    let c₂ = c.hex_digit-c.ensures in
+    let d = c.hex_digit-d.ensures in
+    let e = c.hex_digit-e.ensures in
+    let f = c.hex_digit-g.ensures in
     let h = c.hex-digit-h.ensures in
     let i = c.hex-digit-i.ensures in
     subst (λ bs. HasWritten g.W.Write.write_str_gives c.args.f.now bs c.write.new.self)
