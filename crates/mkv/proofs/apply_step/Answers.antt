@@ -10,7 +10,7 @@ returns-then-width-eq16 c =
     let b = c.args.block.now in
     let e : length b ≡ 16 = omega arith in
     let h : length key ≡ 2 * length b = omega arith in
-    record { outcome = sym (steps_pass (length key) (length b) (inl e) h); written = c.step-with.ensures ∙ step_narrow c.args.step key b e h }
+    record { outcome = sym (steps_pass (length key) (length b) (inl e) h); written = c.step_with.ensures ∙ step_narrow c.args.step key b e h }
 
 pub returns-else-width-eq16 : goal.returns-else-width-eq16
 unfolding m8
@@ -19,4 +19,4 @@ returns-else-width-eq16 c =
     let b = c.args.block.now in
     let e : length b ≡ 32 = omega arith in
     let h : length key ≡ 2 * length b = omega arith in
-    record { outcome = sym (steps_pass (length key) (length b) (inr e) h); written = c.step-with-else-width-eq16.ensures ∙ step_wide c.args.step key b e h }
+    record { outcome = sym (steps_pass (length key) (length b) (inr e) h); written = c.step_with-else-width-eq16.ensures ∙ step_wide c.args.step key b e h }

@@ -10,7 +10,7 @@ returns-then-width-eq16 c =
     let b = c.args.block.now in
     let e : length b ≡ 16 = omega arith in
     let h : length key ≡ 2 * length b = omega arith in
-    record { outcome = sym (steps_pass (length key) (length b) (inl e) h); written = c.unstep-with.ensures ∙ unstep_narrow c.args.step key b e h }
+    record { outcome = sym (steps_pass (length key) (length b) (inl e) h); written = c.unstep_with.ensures ∙ unstep_narrow c.args.step key b e h }
 
 pub returns-else-width-eq16 : goal.returns-else-width-eq16
 unfolding m8_inverse
@@ -19,4 +19,4 @@ returns-else-width-eq16 c =
     let b = c.args.block.now in
     let e : length b ≡ 32 = omega arith in
     let h : length key ≡ 2 * length b = omega arith in
-    record { outcome = sym (steps_pass (length key) (length b) (inr e) h); written = c.unstep-with-else-width-eq16.ensures ∙ unstep_wide c.args.step key b e h }
+    record { outcome = sym (steps_pass (length key) (length b) (inr e) h); written = c.unstep_with-else-width-eq16.ensures ∙ unstep_wide c.args.step key b e h }

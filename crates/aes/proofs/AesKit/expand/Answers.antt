@@ -5,10 +5,10 @@ use Rattle.aes.specs.Versions.{aes}
 use Rattle.aes.specs.Sound.{taken, schedule_is}
 use Rattle.aes.proofs.AesKit.expand.Goals as goal
 
-pub write-schedule-requires : goal.write-schedule-requires
-write-schedule-requires c =
-    let p = c.in-ok--rounds.ensures.passed in
-    let t = taken (length c.args.key.now) c.in-ok--rounds._rounds p.0 in
+pub write_schedule-requires : goal.write_schedule-requires
+write_schedule-requires c =
+    let p = c.in_ok--rounds.ensures.passed in
+    let t = taken (length c.args.key.now) c.in_ok--rounds._rounds p.0 in
     record { some = omega (arith, t.low); words = (t.whole, omega (arith, p.1)); room = omega (arith, p.1, t.words, t.whole) }
 
 pub returns : goal.returns
@@ -16,13 +16,13 @@ unfolding round_keys
 returns c =
     let key = c.args.key.now in
     let out = c.args.schedule.now in
-    let r = c.in-ok--rounds._rounds in
-    let outcome = c.in-ok--rounds.ensures.outcome in
-    let p = c.in-ok--rounds.ensures.passed in
+    let r = c.in_ok--rounds._rounds in
+    let outcome = c.in_ok--rounds.ensures.outcome in
+    let p = c.in_ok--rounds.ensures.passed in
     let all : length out / 4 ≡ 4 * (r + 1) = omega (arith, p.1) in
     record {
       outcome = outcome;
       written =
-          c.write-schedule.ensures ∙ ap (λ n. words (length key / 4) (n - length key / 4) key) all
+          c.write_schedule.ensures ∙ ap (λ n. words (length key / 4) (n - length key / 4) key) all
           ∙ sym (ap (λ o. unless o (aes.schedule key) out) (sym outcome) ∙ schedule_is key r p.0);
     }

@@ -5,4 +5,4 @@ use Rattle.aes.proofs.round.add_round_key.Goals as goal
 
 pub returns : goal.returns
 unfolding add_round_key
-returns c = c.xor-into.ensures ∙ xor_whole c.args.block.now c.args.key.now c.requires
+returns c = c.xor_into.ensures ∙ xor_whole c.args.block.now c.args.key.now c.requires

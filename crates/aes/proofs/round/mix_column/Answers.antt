@@ -9,4 +9,4 @@ pub returns : goal.returns
 returns c =
     let m = c.args.m.now in
     let v = c.args.column.now in
-    c.copy-from-slice.ensures.after ∙ c.apply-product.ensures ∙ fitted_whole 4 (apply aes_poly m v) (length_apply aes_poly m v ∙ c.requires.square)
+    c.copy_from_slice.ensures.after ∙ c.apply-product.ensures ∙ fitted_whole 4 (apply aes_poly m v) (length_apply aes_poly m v ∙ c.requires.square)

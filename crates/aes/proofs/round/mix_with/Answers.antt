@@ -13,8 +13,8 @@ pub loop-i-preserved : goal.loop-i-preserved
 loop-i-preserved c =
     let i = c.loop-i.i in
     let m = c.args.m.now in
-    word_more 4 (apply aes_poly m) (λ v l. length_apply aes_poly m v ∙ c.requires.square) i (i * 4 + 4 - i * 4) c.args.block.now c.loop-i.block c.mix-column.new.column
-    (omega arith) (omega arith) c.loop-i.invariant c.mix-column.ensures
+    word_more 4 (apply aes_poly m) (λ v l. length_apply aes_poly m v ∙ c.requires.square) i (i * 4 + 4 - i * 4) c.args.block.now c.loop-i.block c.mix_column.new.column
+    (omega arith) (omega arith) c.loop-i.invariant c.mix_column.ensures
 
 pub returns : goal.returns
 returns c =

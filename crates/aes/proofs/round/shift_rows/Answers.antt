@@ -17,4 +17,4 @@ pub returns : goal.returns
 unfolding shift_rows
 returns c =
     let b = c.args.block.now in
-    c.copy-from-slice.ensures.after ∙ c.loop-i.invariant.1 ∙ over_whole (moved from_right b) (replicate 16 zero) c.loop-i.i c.loop-i-test.false (length_moved from_right b)
+    c.copy_from_slice.ensures.after ∙ c.loop-i.invariant.1 ∙ over_whole (moved from_right b) (replicate 16 zero) c.loop-i.i c.loop-i-test.false (length_moved from_right b)

@@ -17,10 +17,10 @@ loop-i-preserved c =
     let nk = c.args.nk in
     let i = c.loop-i.i in
     let out = c.loop-i.out in
-    let w = c.copy-from-slice.new.self in
+    let w = c.copy_from_slice.new.self in
     let lw : length w ≡ 4 = search rules in
     let e : i * 4 - 0 ≡ i * 4 = omega arith in
-    let is : w ≡ next nk i (take (i * 4) out) = c.copy-from-slice.ensures.after ∙ c.next-word-word.ensures ∙ ap (λ n. next nk i (take n out)) e in (
+    let is : w ≡ next nk i (take (i * 4) out) = c.copy_from_slice.ensures.after ∙ c.next_word-word.ensures ∙ ap (λ n. next nk i (take n out)) e in (
       search rules,
       take-put_mid (i * 4) (i * 4 + 4 - i * 4) out w ((i + 1) * 4) (omega arith) (omega arith)
           ∙ words_more nk i (take (nk * 4) c.args.out.now) (take (i * 4) out) w c.loop-i.auto.i c.loop-i.invariant.1 is,

@@ -11,8 +11,8 @@ returns c =
     let keys = c.args.keys.now in
     let nk = c.args.nk in
     let i = c.args.i in
-    let w = c.changed-word-word.result in
+    let w = c.changed_word-word.result in
     let v = c.part-2.result.now in
     let lw : length w ≡ 4 = search rules in
-    c.xor-into.ensures ∙ xor_whole w v (lw ∙ sym c.part-2.ensures.size) ∙ commutes w v
-    ∙ ap₂ xor c.part-2.ensures.is (c.changed-word-word.ensures ∙ ap (changed nk i) c.part.ensures.is)
+    c.xor_into.ensures ∙ xor_whole w v (lw ∙ sym c.part-2.ensures.size) ∙ commutes w v
+    ∙ ap₂ xor c.part-2.ensures.is (c.changed_word-word.ensures ∙ ap (changed nk i) c.part.ensures.is)

@@ -7,7 +7,7 @@ pub loop-i-init : goal.loop-i-init
 loop-i-init c = sym x_power_none
 
 pub loop-i-preserved : goal.loop-i-preserved
-loop-i-preserved c = c.times-x-power.ensures ∙ x_power_more c.loop-i._i c.loop-i.power c.loop-i.invariant
+loop-i-preserved c = c.times_x-power.ensures ∙ x_power_more c.loop-i._i c.loop-i.power c.loop-i.invariant
 
 pub returns : goal.returns
 returns c = let e : c.loop-i._i ≡ c.args.n = omega arith in c.loop-i.invariant ∙ ap x_power e

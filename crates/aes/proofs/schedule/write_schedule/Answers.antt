@@ -8,9 +8,9 @@ pub returns : goal.returns
 returns c =
     let key = c.args.key.now in
     let out = c.args.out.now in
-    let u = c.copy-from-slice.new.self in
+    let u = c.copy_from_slice.new.self in
     let post = post_of 0 (length key - 0) out in
-    let eu : u ≡ key = c.copy-from-slice.ensures.after in
+    let eu : u ≡ key = c.copy_from_slice.ensures.after in
     let lu : length u ≡ length key = ap length eu in
     let lp : length post ≡ length out - (length key - 0) = length-drop (length key - 0) out in
     let whole : length u ≡ length key / 4 * 4 = omega (arith, c.requires.words.0) in

@@ -11,8 +11,8 @@ returns c =
     let v = c.loop.schedule in
     let after = c.expand.new.schedule in
     let kept = c.expand.auto.schedule in
-    let lent = c.as-mut-slice.ensures in
+    let lent = c.as_mut_slice.ensures in
     let long : length after ≡ v.len = omega (arith, lent.len, kept) in
-    let told = c.in-ok-expand.ensures in
+    let told = c.in_ok-expand.ensures in
     with_items_is v after long ∙ told.written
-    ∙ ap (λ d. unless d ((meaning a.cipher).schedule a.key.now) c.as-mut-slice.result.now) (sym told.outcome)
+    ∙ ap (λ d. unless d ((meaning a.cipher).schedule a.key.now) c.as_mut_slice.result.now) (sym told.outcome)

@@ -7,8 +7,8 @@ returns c =
     let chain_long : length c.args.self.now.chain ≡ 32 = search rules in
     let held_long : length c.args.self.now.held ≡ 32 = search rules in
     record {
-      count = c.whole-blocks.ensures;
+      count = c.whole_blocks.ensures;
       gives = gives_by c.args.self.now c.requires.fits
-          record { chain = record { size = chain_long; bytes = c.are-bytes.ensures }; held = record { size = held_long; bytes = c.are-bytes-2.ensures } }
-          c.args.n c.whole-blocks.result c.whole-blocks.ensures;
+          record { chain = record { size = chain_long; bytes = c.are_bytes.ensures }; held = record { size = held_long; bytes = c.are_bytes-2.ensures } }
+          c.args.n c.whole_blocks.result c.whole_blocks.ensures;
     }

@@ -10,22 +10,22 @@ returns-then-out-n g c =
     let s = c.args.schedule.now in
     let l = c.args.self.now in
     let long : length c.args.self.now.held ≡ 32 = search rules in
-    let text = c.opened-block-text.result in
+    let text = c.opened_block-text.result in
     let n = c.in-Some.n in
     let found = c.in-Some.ensures.found in
     let law = c.in-Some.ensures.law in
     end_short m s l c.args.out.now
-    (text_whole m s l c.requires.fits c.requires.cbc long c.requires.receives text c.if-self.false c.opened-block-text.ensures n found law)
-    (text_marked m s l c.requires.fits c.requires.cbc long c.requires.receives text c.if-self.false c.opened-block-text.ensures n found law)
-    n (receive_count m s l c.requires.fits c.requires.cbc long c.requires.receives text c.if-self.false c.opened-block-text.ensures n found law) c.if-out-n.true
+    (text_whole m s l c.requires.fits c.requires.cbc long c.requires.receives text c.if-self.false c.opened_block-text.ensures n found law)
+    (text_marked m s l c.requires.fits c.requires.cbc long c.requires.receives text c.if-self.false c.opened_block-text.ensures n found law)
+    n (receive_count m s l c.requires.fits c.requires.cbc long c.requires.receives text c.if-self.false c.opened_block-text.ensures n found law) c.if-out-n.true
 
-pub slice-bounds-write-front-end : goal.slice-bounds-write-front-end
-slice-bounds-write-front-end g c =
+pub slice_bounds-write_front-end : goal.slice_bounds-write_front-end
+slice_bounds-write_front-end g c =
     let m = g.K.Kit.meaning c.args.kit.now in
     let long : length c.args.self.now.held ≡ 32 = search rules in
-    let text = c.opened-block-text.result in
-    let whole : length c.opened-block-text.result ≡ 32 = search rules in
-    let low = end_low m c.args.schedule.now c.args.self.now c.requires.fits c.requires.cbc long c.requires.receives text c.if-self.false c.opened-block-text.ensures c.in-Some.n
+    let text = c.opened_block-text.result in
+    let whole : length c.opened_block-text.result ≡ 32 = search rules in
+    let low = end_low m c.args.schedule.now c.args.self.now c.requires.fits c.requires.cbc long c.requires.receives text c.if-self.false c.opened_block-text.ensures c.in-Some.n
     c.in-Some.ensures.found c.in-Some.ensures.law in
     omega (arith, length-take (c.args.self.now.width - 0) text)
 
@@ -35,17 +35,17 @@ returns g c =
     let s = c.args.schedule.now in
     let l = c.args.self.now in
     let long : length c.args.self.now.held ≡ 32 = search rules in
-    let text = c.opened-block-text.result in
+    let text = c.opened_block-text.result in
     let n = c.in-Some.n in
     let found = c.in-Some.ensures.found in
     let law = c.in-Some.ensures.law in
-    let low = end_low m s l c.requires.fits c.requires.cbc long c.requires.receives text c.if-self.false c.opened-block-text.ensures n found law in
+    let low = end_low m s l c.requires.fits c.requires.cbc long c.requires.receives text c.if-self.false c.opened_block-text.ensures n found law in
     let below : n ≤ c.args.self.now.width - 0 = omega (arith, length-take (c.args.self.now.width - 0) text) in
     let z : n - 0 ≡ n = omega arith in
-    let e = receive_closing m s l c.requires.fits c.requires.cbc long c.requires.receives text c.if-self.false c.opened-block-text.ensures n found law
+    let e = receive_closing m s l c.requires.fits c.requires.cbc long c.requires.receives text c.if-self.false c.opened_block-text.ensures n found law
     ∙ take-take n (l.width - 0) text below in
     end_given m s l c.args.out.now
-    (text_whole m s l c.requires.fits c.requires.cbc long c.requires.receives text c.if-self.false c.opened-block-text.ensures n found law)
-    (text_marked m s l c.requires.fits c.requires.cbc long c.requires.receives text c.if-self.false c.opened-block-text.ensures n found law)
-    n (receive_count m s l c.requires.fits c.requires.cbc long c.requires.receives text c.if-self.false c.opened-block-text.ensures n found law) c.if-out-n.false
-    c.write-front.new.out (c.write-front.ensures ∙ ap (λ j. overwritten c.args.out.now (take j text)) z ∙ ap (overwritten c.args.out.now) (sym e))
+    (text_whole m s l c.requires.fits c.requires.cbc long c.requires.receives text c.if-self.false c.opened_block-text.ensures n found law)
+    (text_marked m s l c.requires.fits c.requires.cbc long c.requires.receives text c.if-self.false c.opened_block-text.ensures n found law)
+    n (receive_count m s l c.requires.fits c.requires.cbc long c.requires.receives text c.if-self.false c.opened_block-text.ensures n found law) c.if-out-n.false
+    c.write_front.new.out (c.write_front.ensures ∙ ap (λ j. overwritten c.args.out.now (take j text)) z ∙ ap (overwritten c.args.out.now) (sym e))

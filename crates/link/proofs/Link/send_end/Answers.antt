@@ -17,8 +17,8 @@ returns-then-out-self g c =
     let chain_long : length c.args.self.now.chain ≡ 32 = search rules in
     let long : length c.args.self.now.held ≡ 32 = search rules in
     let count = closing_count m s l c.requires.fits
-    record { chain = record { size = chain_long; bytes = c.are-bytes.ensures }; held = record { size = long; bytes = c.are-bytes-2.ensures } }
-    (g.met.K.Kit.sound c.args.kit.now) (bytes_from s (λ i. (c.type-inv.schedule i).fits))
+    record { chain = record { size = chain_long; bytes = c.are_bytes.ensures }; held = record { size = long; bytes = c.are_bytes-2.ensures } }
+    (g.met.K.Kit.sound c.args.kit.now) (bytes_from s (λ i. (c.type_inv.schedule i).fits))
     ∙ ap₂ (λ y z. end_count y z (instrument m s l) (view l)) c.requires.cbc c.requires.sends in
     end_short m s l c.args.out.now (ragged_as m s l c.requires.fits c.requires.cbc long Send c.requires.sends) (bare_as m s l c.requires.fits c.requires.cbc long Send c.requires.sends)
     l.width count c.if-out-self.true
@@ -30,9 +30,9 @@ returns g c =
     let l = c.args.self.now in
     let w = c.args.self.now.width in
     let long : length c.args.self.now.held ≡ 32 = search rules in
-    let whole : length c.sealed-block-block.result ≡ 32 = search rules in
+    let whole : length c.sealed_block-block.result ≡ 32 = search rules in
     let z : c.args.self.now.width - 0 ≡ c.args.self.now.width = omega arith in
-    let e = send_closing m s l c.requires.fits c.requires.cbc long c.requires.sends c.pad-from.new.block _ c.sealed-block-block.result c.pad-from.ensures c.sealed-block-block.ensures in
+    let e = send_closing m s l c.requires.fits c.requires.cbc long c.requires.sends c.pad_from.new.block _ c.sealed_block-block.result c.pad_from.ensures c.sealed_block-block.ensures in
     end_given m s l c.args.out.now (ragged_as m s l c.requires.fits c.requires.cbc long Send c.requires.sends) (bare_as m s l c.requires.fits c.requires.cbc long Send c.requires.sends)
-    l.width (ap length e ∙ length-take-le l.width c.sealed-block-block.result (omega (arith, whole, c.requires.fits.thin))) c.if-out-self.false
-    c.write-front.new.out (c.write-front.ensures ∙ ap (λ n. overwritten c.args.out.now (take n c.sealed-block-block.result)) z ∙ ap (overwritten c.args.out.now) (sym e))
+    l.width (ap length e ∙ length-take-le l.width c.sealed_block-block.result (omega (arith, whole, c.requires.fits.thin))) c.if-out-self.false
+    c.write_front.new.out (c.write_front.ensures ∙ ap (λ n. overwritten c.args.out.now (take n c.sealed_block-block.result)) z ∙ ap (overwritten c.args.out.now) (sym e))

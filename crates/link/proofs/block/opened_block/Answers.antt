@@ -6,9 +6,9 @@ use Rattle.link.proofs.block.opened_block.Goals as goal
 
 pub returns : goal.returns
 returns g c =
-    let l : length c.part-into.new.bytes ≡ c.args.width = search (rules, length-take) in
+    let l : length c.part_into.new.bytes ≡ c.args.width = search (rules, length-take) in
     let z : c.args.width - 0 ≡ c.args.width = omega arith in
     let D = deciphered (g.K.Kit.meaning c.args.kit.now) c.args.key c.args.schedule.now in
-    take_at c.part-into.new.bytes _ c.args.width l ∙ c.part-into.ensures
+    take_at c.part_into.new.bytes _ c.args.width l ∙ c.part_into.ensures
     ∙ ap (λ y. part y (take (c.args.width - 0) c.args.chain.now)) c.decipher.ensures.written
     ∙ ap (λ n. part (D (take n c.args.held.now)) (take n c.args.chain.now)) z

@@ -3,4 +3,4 @@ use Rattle.mkv.proofs.Mkv128Kit.expand.Goals as goal
 
 pub returns : goal.returns
 unfolding m4
-returns c = c.expand-with.ensures
+returns c = c.expand_with.ensures

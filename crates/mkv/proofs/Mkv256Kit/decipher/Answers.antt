@@ -3,4 +3,4 @@ use Rattle.mkv.proofs.Mkv256Kit.decipher.Goals as goal
 
 pub returns : goal.returns
 unfolding m8_inverse
-returns c = c.decipher-with.ensures
+returns c = c.decipher_with.ensures

@@ -3,4 +3,4 @@ use Rattle.mkv.proofs.Mkv256Kit.encipher.Goals as goal
 
 pub returns : goal.returns
 unfolding m8
-returns c = c.encipher-with.ensures
+returns c = c.encipher_with.ensures

@@ -3,4 +3,4 @@ use Rattle.mkv.proofs.Mkv256Kit.expand.Goals as goal
 
 pub returns : goal.returns
 unfolding m8
-returns c = c.expand-with.ensures
+returns c = c.expand_with.ensures

@@ -9,5 +9,5 @@ pub returns : goal.returns
 returns g c =
     let m = c.args.m.now in
     let w = c.args.word.now in
-    c.copy-from-slice.ensures.after ∙ c.apply-product.ensures
+    c.copy_from_slice.ensures.after ∙ c.apply-product.ensures
     ∙ fitted_whole g.row.T (apply mkv_poly m w) (length_apply mkv_poly m w ∙ c.requires.square)

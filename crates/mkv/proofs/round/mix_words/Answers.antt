@@ -10,8 +10,8 @@ use Rattle.mkv.proofs.round.mix_words.Goals as goal
 pub loop-i-init : goal.loop-i-init
 loop-i-init g c = each_word_none g.row.T (apply mkv_poly c.args.m.now) c.args.block.now
 
-pub slice-bounds-mix-word-end : goal.slice-bounds-mix-word-end
-slice-bounds-mix-word-end g c =
+pub slice_bounds-mix_word-end : goal.slice_bounds-mix_word-end
+slice_bounds-mix_word-end g c =
     let h : c.loop-i.i * g.row.T + g.row.T ≤ 4 * g.row.T = word_end c.loop-i.i g.row.T c.loop-i-test.true in
     search rules
 
@@ -21,8 +21,8 @@ loop-i-preserved g c =
     let t = g.row.T in
     let m = c.args.m.now in
     let h : i * t + t ≤ 4 * t = word_end i t c.loop-i-test.true in
-    word_more t (apply mkv_poly m) (λ v l. length_apply mkv_poly m v ∙ c.requires.square) i (i * t + t - i * t) c.args.block.now c.loop-i.block c.mix-word.new.word
-    (omega arith) (omega arith) c.loop-i.invariant c.mix-word.ensures
+    word_more t (apply mkv_poly m) (λ v l. length_apply mkv_poly m v ∙ c.requires.square) i (i * t + t - i * t) c.args.block.now c.loop-i.block c.mix_word.new.word
+    (omega arith) (omega arith) c.loop-i.invariant c.mix_word.ensures
 
 pub returns : goal.returns
 unfolding mix_words

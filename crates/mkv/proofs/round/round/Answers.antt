@@ -13,9 +13,9 @@ returns g c =
     let y1 = xor x (half_a t key) in
     let y3 = mix_words t m (sub_cells y1) in
     let y4 = xor y3 (half_b t key) in
-    let e1 : c.add-key.new.block ≡ y1 = c.add-key.ensures ∙ ap (xor x) c.split-at.ensures.front in
-    let e2 : c.sub-cells.new.block ≡ sub_cells y1 = c.sub-cells.ensures ∙ ap sub_cells e1 in
+    let e1 : c.add_key.new.block ≡ y1 = c.add_key.ensures ∙ ap (xor x) c.split_at.ensures.front in
+    let e2 : c.sub_cells.new.block ≡ sub_cells y1 = c.sub_cells.ensures ∙ ap sub_cells e1 in
     let e3 : c.mix_words.new.block ≡ y3 = c.mix_words.ensures ∙ ap (mix_words t m) e2 in
-    let e4 : c.add-key-2.new.block ≡ y4 = c.add-key-2.ensures ∙ ap₂ xor e3 c.split-at.ensures.back in
-    let e5 : c.sub-cells-2.new.block ≡ sub_cells y4 = c.sub-cells-2.ensures ∙ ap sub_cells e4 in
+    let e4 : c.add_key-2.new.block ≡ y4 = c.add_key-2.ensures ∙ ap₂ xor e3 c.split_at.ensures.back in
+    let e5 : c.sub_cells-2.new.block ≡ sub_cells y4 = c.sub_cells-2.ensures ∙ ap sub_cells e4 in
     c.x_words.ensures ∙ ap (x_words t) e5

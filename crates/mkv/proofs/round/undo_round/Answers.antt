@@ -14,7 +14,7 @@ returns g c =
     let z3 = xor (sub_cells_back z1) (half_b t key) in
     let z4 = mix_words t n z3 in
     let e2 : c.sub_cells_back.new.block ≡ sub_cells_back z1 = c.sub_cells_back.ensures ∙ ap sub_cells_back c.x_words.ensures in
-    let e3 : c.add-key.new.block ≡ z3 = c.add-key.ensures ∙ ap₂ xor e2 c.split-at.ensures.back in
+    let e3 : c.add_key.new.block ≡ z3 = c.add_key.ensures ∙ ap₂ xor e2 c.split_at.ensures.back in
     let e4 : c.mix_words.new.block ≡ z4 = c.mix_words.ensures ∙ ap (mix_words t n) e3 in
-    let e5 : c.sub-cells-back-2.new.block ≡ sub_cells_back z4 = c.sub-cells-back-2.ensures ∙ ap sub_cells_back e4 in
-    c.add-key-2.ensures ∙ ap₂ xor e5 c.split-at.ensures.front
+    let e5 : c.sub_cells_back-2.new.block ≡ sub_cells_back z4 = c.sub_cells_back-2.ensures ∙ ap sub_cells_back e4 in
+    c.add_key-2.ensures ∙ ap₂ xor e5 c.split_at.ensures.front

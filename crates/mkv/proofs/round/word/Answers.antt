@@ -3,8 +3,8 @@ use Rattle.block.specs.Words.{word}
 use Rattle.block.proofs.Words.{word_end}
 use Rattle.mkv.proofs.round.word.Goals as goal
 
-pub slice-bounds-result-end : goal.slice-bounds-result-end
-slice-bounds-result-end g c =
+pub slice_bounds-result-end : goal.slice_bounds-result-end
+slice_bounds-result-end g c =
     let h : c.args.i * g.row.T + g.row.T ≤ 4 * g.row.T = word_end c.args.i g.row.T c.requires.place in
     search rules
 

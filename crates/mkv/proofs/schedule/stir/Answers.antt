@@ -4,8 +4,8 @@ use Rattle.mkv.specs.Keys.{stirred}
 use Rattle.mkv.specs.KeysLemmas.{zeros_part, number_part}
 use Rattle.mkv.proofs.schedule.stir.Goals as goal
 
-pub slice-bounds-round-end : goal.slice-bounds-round-end
-slice-bounds-round-end g c =
+pub slice_bounds-round-end : goal.slice_bounds-round-end
+slice_bounds-round-end g c =
     let h : 8 * g.row.T ≤ 64 = omega arith in
     search rules
 

@@ -10,17 +10,17 @@ roomy c =
     room c.loop-b.n c.loop-b.b-index c.args.base c.in-Some.digit
     c.loop-b.invariant.2 (omega arith) (omega arith) (omega (arith, c.in-Some.ensures.value))
 
-pub returns-in-default : goal.returns-in-default
-returns-in-default c = record {
-  value = λ f. c.in-default.ensures.value (rw c.from.ensures (digit_at c.args.base c.args.text.now c.loop-b.b-index f.0.1 (omega arith)));
+pub returns-in_default : goal.returns-in_default
+returns-in_default c = record {
+  value = λ f. c.in_default.ensures.value (rw c.from.ensures (digit_at c.args.base c.args.text.now c.loop-b.b-index f.0.1 (omega arith)));
   bound = tt;
 }
 
-pub overflow-mul-n : goal.overflow-mul-n
-overflow-mul-n c = let r = roomy c in search (rules, r.fits)
+pub overflow_mul-n : goal.overflow_mul-n
+overflow_mul-n c = let r = roomy c in search (rules, r.fits)
 
-pub overflow-add-n : goal.overflow-add-n
-overflow-add-n c = let r = roomy c in search (rules, r.fits)
+pub overflow_add-n : goal.overflow_add-n
+overflow_add-n c = let r = roomy c in search (rules, r.fits)
 
 pub loop-b-preserved : goal.loop-b-preserved
 loop-b-preserved c =

@@ -5,8 +5,8 @@ use Rattle.bank_calls.proofs.Invariants.{written}
 use Rattle.bank_calls.proofs.Closes.{dropped, shut_sits}
 use Rattle.bank_calls.proofs.state.Bank.close.Goals as goal
 
-pub invariant-of-self : goal.invariant-of-self
-invariant-of-self g c =
+pub invariant_of-self : goal.invariant_of-self
+invariant_of-self g c =
     let b = c.args.self.now in
-    let d = dropped (standing b.shelf.book) c.args.link _ (standing c.drop-chain.new.self.book) c.requires c.drop-chain.ensures.outcome in
-    written b c.args.link c.closed.result (standing c.drop-chain.new.self.book) c.requires (shut_sits _ _ _ (ap (λ l. l.open) c.closed.ensures) d.none) d.sized d.others
+    let d = dropped (standing b.shelf.book) c.args.link _ (standing c.drop_chain.new.self.book) c.requires c.drop_chain.ensures.outcome in
+    written b c.args.link c.closed.result (standing c.drop_chain.new.self.book) c.requires (shut_sits _ _ _ (ap (λ l. l.open) c.closed.ensures) d.none) d.sized d.others

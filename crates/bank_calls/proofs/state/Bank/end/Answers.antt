@@ -29,11 +29,11 @@ returns-then-scratch-ne-SCRATCH g c =
 pub returns-in-Ok : goal.returns-in-Ok
 returns-in-Ok g c =
     let b = c.args.self.now in
-    let b' = c.end-with.new.self in
+    let b' = c.end_with.new.self in
     let m = g.K.Kit.meaning b.kit in
     let memory = c.args.memory.now in
     let out = c.args.out.now in
-    let out' = c.end-with.new.out in
+    let out' = c.end_with.new.out in
     let i = c.args.ticket.link in
     let r = Ok c.in-Ok.given in
     let e = c.in-Ok.ensures in
@@ -52,11 +52,11 @@ returns-in-Ok g c =
 pub returns : goal.returns
 returns g c =
     let b = c.args.self.now in
-    let b' = c.end-with.new.self in
+    let b' = c.end_with.new.self in
     let m = g.K.Kit.meaning b.kit in
     let memory = c.args.memory.now in
     let out = c.args.out.now in
-    let out' = c.end-with.new.out in
+    let out' = c.end_with.new.out in
     let i = c.args.ticket.link in
     let r = Err c.in-Err.refusal in
     let e = c.in-Err.ensures in

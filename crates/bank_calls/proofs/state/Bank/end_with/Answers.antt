@@ -11,42 +11,42 @@ use Rattle.bank_calls.proofs.Closes.{Did, end_refused, end_given}
 use Rattle.bank_calls.proofs.Guarded.{unchanged}
 use Rattle.bank_calls.proofs.state.Bank.end_with.Goals as goal
 
-pub offset-bounds-self-link : goal.offset-bounds-self-link
-offset-bounds-self-link g c = omega (arith, load_low c.args.self.now c.args.memory.now c.args.link c.in-ok-n.ensures.told)
+pub offset_bounds-self-link : goal.offset_bounds-self-link
+offset_bounds-self-link g c = omega (arith, load_low c.args.self.now c.args.memory.now c.args.link c.in_ok-n.ensures.told)
 
 pub bounds-self-link : goal.bounds-self-link
-bounds-self-link g c = load_low c.args.self.now c.args.memory.now c.args.link c.in-ok-n.ensures.told
+bounds-self-link g c = load_low c.args.self.now c.args.memory.now c.args.link c.in_ok-n.ensures.told
 
-pub returns-in-err-given : goal.returns-in-err-given
-returns-in-err-given g c =
+pub returns-in_err-given : goal.returns-in_err-given
+returns-in_err-given g c =
     let b = c.args.self.now in
     let memory = c.args.memory.now in
     let i = c.args.link in
-    let held = c.in-ok-n.ensures in
+    let held = c.in_ok-n.ensures in
     let m = g.K.Kit.meaning b.kit in
-    let n = c.in-ok-n.n in
+    let n = c.in_ok-n.n in
     let whole : n - 0 ≡ n = omega arith in
     let schedule : take (n - 0) c.load.new.scratch ≡ joined (list (standing b.shelf.book) memory i) = ap (λ k. take k c.load.new.scratch) whole ∙ held.holds.1 in
-    let p = err_from_is_err_and c.from-residual-in-err-given.result c.from-residual-in-err-given.ensures.1 in
-    let P : List ℕ → Type 0 = λ s. one.Ends m s (at b.links i) c.args.out.now (Err c.in-err-given.field-0.0) c.end.new.out in
-    let d = end_refused b b memory i m c.args.out.now c.end.new.out held.told c.in-err-given.field-0.0 (subst P schedule c.in-err-given.ensures) (unchanged b b) in
+    let p = err_from_is_err_and c.from-residual-in_err-given.result c.from-residual-in_err-given.ensures.1 in
+    let P : List ℕ → Type 0 = λ s. one.Ends m s (at b.links i) c.args.out.now (Err c.in_err-given.field-0.0) c.end.new.out in
+    let d = end_refused b b memory i m c.args.out.now c.end.new.out held.told c.in_err-given.field-0.0 (subst P schedule c.in_err-given.ensures) (unchanged b b) in
     let Q : Result ℕ Refusal → Type 0 = Did b b memory i m c.args.out.now c.end.new.out in
     let q = subst Q (sym (p.1 ∙ ap Err p.2)) d in
     record { outcome = q.0; output = q.1; link = q.2 }
 
 pub close-requires : goal.close-requires
-close-requires g c = load_low c.args.self.now c.args.memory.now c.args.link c.in-ok-n.ensures.told
+close-requires g c = load_low c.args.self.now c.args.memory.now c.args.link c.in_ok-n.ensures.told
 
 pub returns : goal.returns
 returns g c =
     let b = c.args.self.now in
     let memory = c.args.memory.now in
     let i = c.args.link in
-    let held = c.in-ok-n.ensures in
+    let held = c.in_ok-n.ensures in
     let m = g.K.Kit.meaning b.kit in
-    let n = c.in-ok-n.n in
+    let n = c.in_ok-n.n in
     let whole : n - 0 ≡ n = omega arith in
     let schedule : take (n - 0) c.load.new.scratch ≡ joined (list (standing b.shelf.book) memory i) = ap (λ k. take k c.load.new.scratch) whole ∙ held.holds.1 in
-    let P : List ℕ → Type 0 = λ s. one.Ends m s (at b.links i) c.args.out.now (Ok c.in-ok-given.given) c.end.new.out in
-    let d = end_given b c.close.new.self memory i m c.args.out.now c.end.new.out held.told c.in-ok-given.given c.end.auto.out (subst P schedule c.in-ok-given.ensures) c.close.ensures in
+    let P : List ℕ → Type 0 = λ s. one.Ends m s (at b.links i) c.args.out.now (Ok c.in_ok-given.given) c.end.new.out in
+    let d = end_given b c.close.new.self memory i m c.args.out.now c.end.new.out held.told c.in_ok-given.given c.end.auto.out (subst P schedule c.in_ok-given.ensures) c.close.ensures in
     record { outcome = d.0; output = d.1; link = d.2 }

@@ -4,4 +4,4 @@ use Rattle.bank_calls.proofs.state.Bank.load.Goals as goal
 
 pub returns : goal.returns
 returns g c =
-    loaded c.args.self.now c.args.memory.now c.args.link c.args.scratch.now c.gather-bytes.new.out c.gather-bytes.result c.requires c.gather-bytes.auto.out (sym c.is-open.ensures ∙ c.if-not-is-open.false) c.gather-bytes.ensures
+    loaded c.args.self.now c.args.memory.now c.args.link c.args.scratch.now c.gather_bytes.new.out c.gather_bytes.result c.requires c.gather_bytes.auto.out (sym c.is_open.ensures ∙ c.if-not-is_open.false) c.gather_bytes.ensures

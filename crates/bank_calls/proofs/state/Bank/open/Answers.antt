@@ -28,27 +28,27 @@ returns-then-scratch-ne-SCRATCH g c =
       outcome = did;
       scratch = untouched c.args.scratch.now d;
       link = (unchanged b b, refl);
-      past = adds_open m b b memory memory a refl (bytes_from key (λ i. (c.type-inv.key i).fits)) (bytes_from start (λ i. (c.type-inv.start i).fits)) (Err Scratch) (λ e is. unchanged b b) did;
+      past = adds_open m b b memory memory a refl (bytes_from key (λ i. (c.type_inv.key i).fits)) (bytes_from start (λ i. (c.type_inv.start i).fits)) (Err Scratch) (λ e is. unchanged b b) did;
     }
 
-pub returns-in-err-link : goal.returns-in-err-link
-returns-in-err-link g c =
+pub returns-in_err-link : goal.returns-in_err-link
+returns-in_err-link g c =
     let b = c.args.self.now in
-    let b' = c.open-with.new.self in
+    let b' = c.open_with.new.self in
     let m = g.K.Kit.meaning b.kit in
     let memory = c.args.memory.now in
-    let memory' = c.open-with.new.memory in
+    let memory' = c.open_with.new.memory in
     let key = c.args.key.now in
     let start = c.args.start.now in
     let right = c.if-scratch-ne-SCRATCH.false in
-    let f = c.in-err-link.field-0.0 in
-    let e = c.in-err-link.ensures in
+    let f = c.in_err-link.field-0.0 in
+    let e = c.in_err-link.ensures in
     let a = asked c.args.scratch.now memory c.args.mode c.args.direction key start in
     let P : ℕ → Type 0 = λ k. Opens m (books b memory) (asked_with k memory c.args.mode c.args.direction key start) (Err f) (books b' memory') in
     let did = subst P (sym right) e.outcome in
     let long : length c.drop-room.new.self.0 ≡ 1536 = search rules in
     let p = err_from_is_err_and c.from-residual.result c.from-residual.ensures.1 in
-    let past = adds_open m b b' memory memory' a refl (bytes_from key (λ i. (c.type-inv.key i).fits)) (bytes_from start (λ i. (c.type-inv.start i).fits)) (Err f) (λ r is. e.link.0) did in
+    let past = adds_open m b b' memory memory' a refl (bytes_from key (λ i. (c.type_inv.key i).fits)) (bytes_from start (λ i. (c.type_inv.start i).fits)) (Err f) (λ r is. e.link.0) did in
     let Q : Result Ticket Refusal → Type 0 = λ r. Opens m (books b memory) a (number r) (books b' memory') × MatchResult r (λ t. Takes m b memory a t.link b' memory') (λ _. Kept b b' × (memory' ≡ memory)) × Adds m b memory (opens a (number r)) b' memory' in
     let q : Q _ = subst Q (sym (p.1 ∙ ap Err p.2)) (did, e.link, past) in
     record { outcome = q.0; scratch = wiped c.args.scratch.now _ right long c.drop-room.ensures; link = q.1; past = q.2 }
@@ -56,15 +56,15 @@ returns-in-err-link g c =
 pub returns : goal.returns
 returns g c =
     let b = c.args.self.now in
-    let b' = c.open-with.new.self in
+    let b' = c.open_with.new.self in
     let m = g.K.Kit.meaning b.kit in
     let memory = c.args.memory.now in
-    let memory' = c.open-with.new.memory in
+    let memory' = c.open_with.new.memory in
     let key = c.args.key.now in
     let start = c.args.start.now in
     let right = c.if-scratch-ne-SCRATCH.false in
-    let i = c.in-ok-link.link in
-    let e = c.in-ok-link.ensures in
+    let i = c.in_ok-link.link in
+    let e = c.in_ok-link.ensures in
     let P : ℕ → Type 0 = λ k. Opens m (books b memory) (asked_with k memory c.args.mode c.args.direction key start) (Ok i) (books b' memory') in
     let Q : ℕ → Type 0 = λ k. Takes m b memory (asked_with k memory c.args.mode c.args.direction key start) i b' memory' in
     let did = subst P (sym right) e.outcome in
@@ -73,5 +73,5 @@ returns g c =
       outcome = did;
       scratch = wiped c.args.scratch.now _ right long c.drop-room-2.ensures;
       link = subst Q (sym right) e.link;
-      past = adds_open m b b' memory memory' (asked c.args.scratch.now memory c.args.mode c.args.direction key start) refl (bytes_from key (λ i. (c.type-inv.key i).fits)) (bytes_from start (λ i. (c.type-inv.start i).fits)) (Ok i) (λ e is. let z : ◌≡◌ {A = ℕ} 0 1 = cc in absurd (omega arith)) did;
+      past = adds_open m b b' memory memory' (asked c.args.scratch.now memory c.args.mode c.args.direction key start) refl (bytes_from key (λ i. (c.type_inv.key i).fits)) (bytes_from start (λ i. (c.type_inv.start i).fits)) (Ok i) (λ e is. let z : ◌≡◌ {A = ℕ} 0 1 = cc in absurd (omega arith)) did;
     }

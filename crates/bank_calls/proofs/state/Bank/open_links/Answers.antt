@@ -5,8 +5,8 @@ use Rattle.bank_calls.proofs.Seen.{open_count, eight_seen, below_open, below_shu
 use Rattle.bank_calls.proofs.state.Bank.open_links.Goals as goal
 use Rattle.bank_calls.proofs.state.Bank.open_links.Goals.{then-self-i, else-self-i}
 
-pub overflow-add-n : goal.overflow-add-n
-overflow-add-n g c = omega (arith, c.loop-i.invariant.1, c.loop-i-test.true)
+pub overflow_add-n : goal.overflow_add-n
+overflow_add-n g c = omega (arith, c.loop-i.invariant.1, c.loop-i-test.true)
 
 pub loop-i-preserved : goal.loop-i-preserved
 loop-i-preserved g c =

@@ -24,27 +24,27 @@ returns-then-scratch-ne-SCRATCH g c =
       scratch = untouched c.args.scratch.now d;
       output = refl;
       link = unchanged b b;
-      past = adds_put m b b memory c.args.link f refl (Err Scratch) (λ e is. unchanged b b) piece (bytes_from piece (λ i. (c.type-inv.piece i).fits)) did;
+      past = adds_put m b b memory c.args.link f refl (Err Scratch) (λ e is. unchanged b b) piece (bytes_from piece (λ i. (c.type_inv.piece i).fits)) did;
     }
 
 pub returns : goal.returns
 returns g c =
     let b = c.args.self.now in
-    let b' = c.put-with.new.self in
+    let b' = c.put_with.new.self in
     let m = g.K.Kit.meaning b.kit in
     let memory = c.args.memory.now in
     let piece = c.args.piece.now in
     let out = c.args.out.now in
-    let out' = c.put-with.new.out in
-    let r = c.put-with.result in
+    let out' = c.put_with.new.out in
+    let r = c.put_with.result in
     let right = c.if-scratch-ne-SCRATCH.false in
     let P : ℕ → Type 0 = λ k. Puts m (books b memory) (lengths_with k memory out) c.args.link piece (gave r out') (books b' memory) in
-    let did = subst P (sym right) c.put-with.ensures.outcome in
+    let did = subst P (sym right) c.put_with.ensures.outcome in
     let long : length c.drop-guard.new.self.0 ≡ 1536 = search rules in
     record {
       outcome = did;
       scratch = wiped c.args.scratch.now _ right long c.drop-guard.ensures;
-      output = c.put-with.ensures.output;
-      link = c.put-with.ensures.link;
-      past = adds_put m b b' memory c.args.link (lengths c.args.scratch.now memory out) refl (gave r out') (refused_keeps b b' (λ _. Steps b c.args.link b') r out' c.put-with.ensures.link) piece (bytes_from piece (λ i. (c.type-inv.piece i).fits)) did;
+      output = c.put_with.ensures.output;
+      link = c.put_with.ensures.link;
+      past = adds_put m b b' memory c.args.link (lengths c.args.scratch.now memory out) refl (gave r out') (refused_keeps b b' (λ _. Steps b c.args.link b') r out' c.put_with.ensures.link) piece (bytes_from piece (λ i. (c.type_inv.piece i).fits)) did;
     }

@@ -9,23 +9,23 @@ use Rattle.bank_calls.proofs.state.Bank.strike.Goals as goal
 pub close-requires : goal.close-requires
 close-requires g c =
     let b = c.args.self.now in
-    omega (arith, open_below b.links c.args.ticket.link (sym c.is-open.ensures ∙ c.if-is-open.true), b.eight)
+    omega (arith, open_below b.links c.args.ticket.link (sym c.is_open.ensures ∙ c.if-is_open.true), b.eight)
 
-pub returns-then-is-open : goal.returns-then-is-open
-returns-then-is-open g c =
+pub returns-then-is_open : goal.returns-then-is_open
+returns-then-is_open g c =
     let b = c.args.self.now in
     let i = c.args.ticket.link in
     let b' = c.close.new.self in
-    let o : (at b.links i).open ≡ true = sym c.is-open.ensures ∙ c.if-is-open.true in
+    let o : (at b.links i).open ≡ true = sym c.is_open.ensures ∙ c.if-is_open.true in
     let P : Bool → Type 0 = λ t. MatchBool t (Shuts b i b') (Kept b b') in
     let h : StrikesOne b i b' = subst P (sym o) c.close.ensures in
     record { outcome = λ memory. strikes_as b b' memory i h; link = h; past = adds_strike _ b b' i (λ memory. strikes_as b b' memory i h) }
 
-pub returns-else-is-open : goal.returns-else-is-open
-returns-else-is-open g c =
+pub returns-else-is_open : goal.returns-else-is_open
+returns-else-is_open g c =
     let b = c.args.self.now in
     let i = c.args.ticket.link in
-    let o : (at b.links i).open ≡ false = sym c.is-open.ensures ∙ c.if-is-open.false in
+    let o : (at b.links i).open ≡ false = sym c.is_open.ensures ∙ c.if-is_open.false in
     let P : Bool → Type 0 = λ t. MatchBool t (Shuts b i b) (Kept b b) in
     let h : StrikesOne b i b = subst P (sym o) (record { kit = refl; shelf = refl; links = refl }) in
     record { outcome = λ memory. strikes_as b b memory i h; link = h; past = adds_strike _ b b i (λ memory. strikes_as b b memory i h) }

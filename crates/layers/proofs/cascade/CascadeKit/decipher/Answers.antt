@@ -5,8 +5,8 @@ use Rattle.layers.specs.Cascaded.{bytes_of, dec, cascaded}
 use Rattle.layers.proofs.Cascades.{fits_first, fits_second, second_dec, passes, leaves}
 use Rattle.layers.proofs.cascade.CascadeKit.decipher.Goals as goal
 
-pub returns-in-err-decipher : goal.returns-in-err-decipher
-returns-in-err-decipher g c =
+pub returns-in_err-decipher : goal.returns-in_err-decipher
+returns-in_err-decipher g c =
     let self = c.args.self.now in
     let p = self.split in
     let m = g.A.Kit.meaning self.first in
@@ -17,13 +17,13 @@ returns-in-err-decipher g c =
     let len = c.args.len in
     let s = c.args.schedule.now in
     let x = c.args.block.now in
-    let parts = c.in-ok-parts.parts in
-    let ensured = c.in-ok-parts.ensures in
+    let parts = c.in_ok-parts.parts in
+    let ensured = c.in_ok-parts.ensures in
     let fit : (i : ℕ) → Fits w8 (get_or c.args.block.now i 0) = λ i. search rules in
-    let h = sized_by (cascaded p m n) len s x (bytes_from s (λ i. (c.type-inv.schedule i).fits)) (bytes_from x (λ i. (fit i).fits)) (sym ensured.outcome) in
+    let h = sized_by (cascaded p m n) len s x (bytes_from s (λ i. (c.type_inv.schedule i).fits)) (bytes_from x (λ i. (fit i).fits)) (sym ensured.outcome) in
     let front = take (bytes_of (m.need p)) s in
     let rest = drop (bytes_of (m.need p)) s in
-    let e = c.in-err-decipher.ensures.outcome ∙ passes n n.dec (len - p) rest x (fits_second p m n sm sn same len s x h x h.block) parts.rest parts.second.now x ensured.parts.rest ensured.parts.back refl in
+    let e = c.in_err-decipher.ensures.outcome ∙ passes n n.dec (len - p) rest x (fits_second p m n sm sn same len s x h x h.block) parts.rest parts.second.now x ensured.parts.rest ensured.parts.back refl in
     let z : ◌≡◌ {A = ℕ} 0 1 = cc in
     absurd (omega arith)
 
@@ -40,10 +40,10 @@ returns g c =
     let len = c.args.len in
     let s = c.args.schedule.now in
     let x = c.args.block.now in
-    let parts = c.in-ok-parts.parts in
-    let ensured = c.in-ok-parts.ensures in
+    let parts = c.in_ok-parts.parts in
+    let ensured = c.in_ok-parts.ensures in
     let fit : (i : ℕ) → Fits w8 (get_or c.args.block.now i 0) = λ i. search rules in
-    let h = sized_by (cascaded p m n) len s x (bytes_from s (λ i. (c.type-inv.schedule i).fits)) (bytes_from x (λ i. (fit i).fits)) (sym ensured.outcome) in
+    let h = sized_by (cascaded p m n) len s x (bytes_from s (λ i. (c.type_inv.schedule i).fits)) (bytes_from x (λ i. (fit i).fits)) (sym ensured.outcome) in
     let front = take (bytes_of (m.need p)) s in
     let rest = drop (bytes_of (m.need p)) s in
     let y = n.dec (len - p) rest x in

@@ -6,17 +6,17 @@ use Rattle.layers.proofs.Answers.{expand_due}
 use Rattle.layers.proofs.Cascades.{accepted, end_is, first_accepted, first_written, second_accepted, second_written, written}
 use Rattle.layers.proofs.cascade.CascadeKit.expand.Goals as goal
 
-pub returns-in-err-expand : goal.returns-in-err-expand
-returns-in-err-expand g c =
+pub returns-in_err-expand : goal.returns-in_err-expand
+returns-in_err-expand g c =
     let self = c.args.self.now in
     let m = g.A.Kit.meaning self.first in
     let n = g.B.Kit.meaning self.second in
     let key = c.args.key.now in
     let out = c.args.schedule.now in
-    let d = expand_due (cascaded_need self.split m n (length key)) (length out) (sym c.in-ok-end.ensures.outcome) in
+    let d = expand_due (cascaded_need self.split m n (length key)) (length out) (sym c.in_ok-end.ensures.outcome) in
     let a = accepted self.split m n (length key) d.0 d.1.0 in
-    let none = first_accepted self.split m n (g.met.A.Kit.sound self.first) key out (bytes_from key (λ i. (c.type-inv.key i).fits)) d.0 a d.1.1 c.in-ok-end.end c.in-ok-end.ensures.end in
-    let e = c.in-err-expand.ensures.outcome ∙ none in
+    let none = first_accepted self.split m n (g.met.A.Kit.sound self.first) key out (bytes_from key (λ i. (c.type_inv.key i).fits)) d.0 a d.1.1 c.in_ok-end.end c.in_ok-end.ensures.end in
+    let e = c.in_err-expand.ensures.outcome ∙ none in
     let z : ◌≡◌ {A = ℕ} 0 1 = cc in
     absurd (omega arith)
 
@@ -28,11 +28,11 @@ returns g c =
     let sm = g.met.A.Kit.sound self.first in
     let key = c.args.key.now in
     let out = c.args.schedule.now in
-    let end = c.in-ok-end.end in
-    let ee = c.in-ok-end.ensures.end in
-    let d = expand_due (cascaded_need self.split m n (length key)) (length out) (sym c.in-ok-end.ensures.outcome) in
+    let end = c.in_ok-end.end in
+    let ee = c.in_ok-end.ensures.end in
+    let d = expand_due (cascaded_need self.split m n (length key)) (length out) (sym c.in_ok-end.ensures.outcome) in
     let a = accepted self.split m n (length key) d.0 d.1.0 in
-    let hk = bytes_from key (λ i. (c.type-inv.key i).fits) in
+    let hk = bytes_from key (λ i. (c.type_inv.key i).fits) in
     let u = c.expand.new.schedule in
     let v = c.expand-2.new.schedule in
     let eu : u ≡ m.schedule _ = c.expand.ensures.written ∙ first_written self.split m n sm key out hk d.0 a d.1.1 end ee in

@@ -10,10 +10,10 @@ use Rattle.layers.proofs.cascade.CascadeKit.need.Goals as goal
 pub returns-then-len-self : goal.returns-then-len-self
 returns-then-len-self g c =
     let self = c.args.self.now in
-    ap Err c.refused-here.ensures ∙ sym (ap told (need_short self.split (g.A.Kit.meaning self.first) (g.B.Kit.meaning self.second) c.args.len c.if-len-self.true))
+    ap Err c.refused_here.ensures ∙ sym (ap told (need_short self.split (g.A.Kit.meaning self.first) (g.B.Kit.meaning self.second) c.args.len c.if-len-self.true))
 
-pub returns-in-err-ours : goal.returns-in-err-ours
-returns-in-err-ours g c =
+pub returns-in_err-ours : goal.returns-in_err-ours
+returns-in_err-ours g c =
     let self = c.args.self.now in
     let m = g.A.Kit.meaning self.first in
     let n = g.B.Kit.meaning self.second in
@@ -22,35 +22,35 @@ returns-in-err-ours g c =
     let rises = c.risen.ensures (m.need self.split) c.need.ensures in
     p.1 ∙ ap Err p.2
     ∙ sym (ap told (need_long self.split m n len c.if-len-self.false)
-    ∙ both_refused len (risen (m.need self.split)) (risen (n.need (len - self.split))) _ (sym rises ∙ c.in-err-ours.was))
+    ∙ both_refused len (risen (m.need self.split)) (risen (n.need (len - self.split))) _ (sym rises ∙ c.in_err-ours.was))
 
-pub returns-in-err-others : goal.returns-in-err-others
-returns-in-err-others g c =
+pub returns-in_err-others : goal.returns-in_err-others
+returns-in_err-others g c =
     let self = c.args.self.now in
     let m = g.A.Kit.meaning self.first in
     let n = g.B.Kit.meaning self.second in
     let len = c.args.len in
-    let ours = c.in-ok-ours.ours in
-    let p = err_from_is_err_and c.from-residual-in-err-others.result c.from-residual-in-err-others.ensures.1 in
+    let ours = c.in_ok-ours.ours in
+    let p = err_from_is_err_and c.from-residual-in_err-others.result c.from-residual-in_err-others.ensures.1 in
     let rises_first = c.risen.ensures (m.need self.split) c.need.ensures in
     let rises = c.risen-2.ensures (n.need (len - self.split)) c.need-2.ensures in
     p.1 ∙ ap Err p.2
     ∙ sym (ap told (need_long self.split m n len c.if-len-self.false)
     ∙ both_refused_second len ours (risen (m.need self.split)) (risen (n.need (len - self.split))) _
-    (told_ok (risen (m.need self.split)) ours (sym rises_first ∙ c.in-ok-ours.was)) (sym rises ∙ c.in-err-others.was))
+    (told_ok (risen (m.need self.split)) ours (sym rises_first ∙ c.in_ok-ours.was)) (sym rises ∙ c.in_err-others.was))
 
-pub overflow-add-ours : goal.overflow-add-ours
-overflow-add-ours g c =
+pub overflow_add-ours : goal.overflow_add-ours
+overflow_add-ours g c =
     let self = c.args.self.now in
     let m = g.A.Kit.meaning self.first in
     let n = g.B.Kit.meaning self.second in
-    let ours = c.in-ok-ours.ours in
-    let others = c.in-ok-others.others in
+    let ours = c.in_ok-ours.ours in
+    let others = c.in_ok-others.others in
     let l = c.args.len - self.split in
     let rises_first = c.risen.ensures (m.need self.split) c.need.ensures in
     let rises = c.risen-2.ensures (n.need l) c.need-2.ensures in
-    let few : ours ≤ 96 = ((g.met.A.Kit.sound self.first).cells self.split ours (risen_ok (m.need self.split) ours (told_ok (risen (m.need self.split)) ours (sym rises_first ∙ c.in-ok-ours.was)))).1 in
-    let more : others ≤ 96 = ((g.met.B.Kit.sound self.second).cells l others (risen_ok (n.need l) others (told_ok (risen (n.need l)) others (sym rises ∙ c.in-ok-others.was)))).1 in
+    let few : ours ≤ 96 = ((g.met.A.Kit.sound self.first).cells self.split ours (risen_ok (m.need self.split) ours (told_ok (risen (m.need self.split)) ours (sym rises_first ∙ c.in_ok-ours.was)))).1 in
+    let more : others ≤ 96 = ((g.met.B.Kit.sound self.second).cells l others (risen_ok (n.need l) others (told_ok (risen (n.need l)) others (sym rises ∙ c.in_ok-others.was)))).1 in
     search rules
 
 pub returns : goal.returns
@@ -59,10 +59,10 @@ returns g c =
     let m = g.A.Kit.meaning self.first in
     let n = g.B.Kit.meaning self.second in
     let len = c.args.len in
-    let ours = c.in-ok-ours.ours in
-    let others = c.in-ok-others.others in
+    let ours = c.in_ok-ours.ours in
+    let others = c.in_ok-others.others in
     let rises_first = c.risen.ensures (m.need self.split) c.need.ensures in
     let rises = c.risen-2.ensures (n.need (len - self.split)) c.need-2.ensures in
     c.bounded.ensures
     ∙ sym (ap told (need_long self.split m n len c.if-len-self.false
-    ∙ ap₂ (both len) (told_ok (risen (m.need self.split)) ours (sym rises_first ∙ c.in-ok-ours.was)) (told_ok (risen (n.need (len - self.split))) others (sym rises ∙ c.in-ok-others.was))))
+    ∙ ap₂ (both len) (told_ok (risen (m.need self.split)) ours (sym rises_first ∙ c.in_ok-ours.was)) (told_ok (risen (n.need (len - self.split))) others (sym rises ∙ c.in_ok-others.was))))

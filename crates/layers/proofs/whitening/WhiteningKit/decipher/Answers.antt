@@ -5,21 +5,21 @@ use Rattle.layers.specs.Whitened.{white, inner, block_a, block_b, dec, whitened}
 use Rattle.layers.proofs.Whitens.{fits_below, whole_a, whole_b, passes, comes_out}
 use Rattle.layers.proofs.whitening.WhiteningKit.decipher.Goals as goal
 
-pub returns-in-err-decipher : goal.returns-in-err-decipher
-returns-in-err-decipher g c =
+pub returns-in_err-decipher : goal.returns-in_err-decipher
+returns-in_err-decipher g c =
     let k = c.args.self.now.inner in
     let m = g.K.Kit.meaning k in
     let sound = g.met.K.Kit.sound k in
     let len = c.args.len in
     let s = c.args.schedule.now in
     let x = c.args.block.now in
-    let p = c.in-ok-parts.parts in
-    let ensured = c.in-ok-parts.ensures in
+    let p = c.in_ok-parts.parts in
+    let ensured = c.in_ok-parts.ensures in
     let fit : (i : ℕ) → Fits w8 (get_or c.args.block.now i 0) = λ i. search rules in
-    let h = sized_by (whitened m) len s x (bytes_from s (λ i. (c.type-inv.schedule i).fits)) (bytes_from x (λ i. (fit i).fits)) (sym ensured.outcome) in
+    let h = sized_by (whitened m) len s x (bytes_from s (λ i. (c.type_inv.schedule i).fits)) (bytes_from x (λ i. (fit i).fits)) (sym ensured.outcome) in
     let none = passes m sound len s x h m.dec (λ y hy. sound.deciphers _ _ y (fits_below m sound len s x h y hy)) (block_b m.width s) (block_a m.width s) (whole_b m sound len s x h) (whole_a m sound len s x h)
-    p.rest p.inner.now p.b.now c.xor-into.new.block ensured.parts.rest ensured.parts.inner ensured.parts.b c.xor-into.ensures in
-    let e = c.in-err-decipher.ensures.outcome ∙ none in
+    p.rest p.inner.now p.b.now c.xor_into.new.block ensured.parts.rest ensured.parts.inner ensured.parts.b c.xor_into.ensures in
+    let e = c.in_err-decipher.ensures.outcome ∙ none in
     let z : ◌≡◌ {A = ℕ} 0 1 = cc in
     absurd (omega arith)
 
@@ -32,11 +32,11 @@ returns g c =
     let len = c.args.len in
     let s = c.args.schedule.now in
     let x = c.args.block.now in
-    let p = c.in-ok-parts.parts in
-    let ensured = c.in-ok-parts.ensures in
+    let p = c.in_ok-parts.parts in
+    let ensured = c.in_ok-parts.ensures in
     let fit : (i : ℕ) → Fits w8 (get_or c.args.block.now i 0) = λ i. search rules in
-    let h = sized_by (whitened m) len s x (bytes_from s (λ i. (c.type-inv.schedule i).fits)) (bytes_from x (λ i. (fit i).fits)) (sym ensured.outcome) in
+    let h = sized_by (whitened m) len s x (bytes_from s (λ i. (c.type_inv.schedule i).fits)) (bytes_from x (λ i. (fit i).fits)) (sym ensured.outcome) in
     let out = comes_out m sound len s x h m.dec (λ y hy. sound.deciphers _ _ y (fits_below m sound len s x h y hy)) (block_b m.width s) (block_a m.width s) (whole_b m sound len s x h) (whole_a m sound len s x h)
-    p.rest p.inner.now p.b.now c.xor-into.new.block ensured.parts.rest ensured.parts.inner ensured.parts.b c.xor-into.ensures
-    p.a.now c.decipher.new.block c.xor-into-2.new.block ensured.parts.a c.decipher.ensures.written c.xor-into-2.ensures in
+    p.rest p.inner.now p.b.now c.xor_into.new.block ensured.parts.rest ensured.parts.inner ensured.parts.b c.xor_into.ensures
+    p.a.now c.decipher.new.block c.xor_into-2.new.block ensured.parts.a c.decipher.ensures.written c.xor_into-2.ensures in
     record { outcome = ensured.outcome; written = out ∙ sym (deciphered_fits (whitened m) len s x h) }

@@ -11,40 +11,40 @@ use Rattle.layers.proofs.whitening.WhiteningKit.need.Goals as goal
 pub returns-then-len-white : goal.returns-then-len-white
 returns-then-len-white g c =
     let m = g.K.Kit.meaning c.args.self.now.inner in
-    let short : c.args.len < white m = omega (arith, c.width-of-white.ensures.is) in
-    ap Err c.refused-here.ensures ∙ sym (ap told (need_short m c.args.len short))
+    let short : c.args.len < white m = omega (arith, c.width_of-white.ensures.is) in
+    ap Err c.refused_here.ensures ∙ sym (ap told (need_short m c.args.len short))
 
-pub returns-in-err-cells : goal.returns-in-err-cells
-returns-in-err-cells g c =
+pub returns-in_err-cells : goal.returns-in_err-cells
+returns-in_err-cells g c =
     let m = g.K.Kit.meaning c.args.self.now.inner in
     let len = c.args.len in
-    let long : white m ≤ len = omega (arith, c.width-of-white.ensures.is) in
+    let long : white m ≤ len = omega (arith, c.width_of-white.ensures.is) in
     let p = err_from_is_err_and c.from-residual.result c.from-residual.ensures.1 in
     let rises : c.risen.result ≡ told (risen (m.need (len - white m))) =
-    c.risen.ensures (m.need (len - 2 * c.width-of-white.result)) c.need.ensures
-    ∙ ap (λ w. told (risen (m.need (len - 2 * w)))) c.width-of-white.ensures.is in
+    c.risen.ensures (m.need (len - 2 * c.width_of-white.result)) c.need.ensures
+    ∙ ap (λ w. told (risen (m.need (len - 2 * w)))) c.width_of-white.ensures.is in
     p.1 ∙ ap Err p.2
-    ∙ sym (ap told (need_long m len long) ∙ both_refused len (risen (m.need (len - white m))) (Ok (white_cells m)) _ (sym rises ∙ c.in-err-cells.was))
+    ∙ sym (ap told (need_long m len long) ∙ both_refused len (risen (m.need (len - white m))) (Ok (white_cells m)) _ (sym rises ∙ c.in_err-cells.was))
 
-pub overflow-add-cells : goal.overflow-add-cells
-overflow-add-cells g c =
+pub overflow_add-cells : goal.overflow_add-cells
+overflow_add-cells g c =
     let k = c.args.self.now.inner in
     let m = g.K.Kit.meaning k in
-    let n = c.in-ok-cells.cells in
-    let l = c.args.len - 2 * c.width-of-white.result in
+    let n = c.in_ok-cells.cells in
+    let l = c.args.len - 2 * c.width_of-white.result in
     let rises = c.risen.ensures (m.need l) c.need.ensures in
-    let few : n ≤ 96 = ((g.met.K.Kit.sound k).cells l n (risen_ok (m.need l) n (told_ok (risen (m.need l)) n (sym rises ∙ c.in-ok-cells.was)))).1 in
+    let few : n ≤ 96 = ((g.met.K.Kit.sound k).cells l n (risen_ok (m.need l) n (told_ok (risen (m.need l)) n (sym rises ∙ c.in_ok-cells.was)))).1 in
     search rules
 
 pub returns : goal.returns
 returns g c =
     let m = g.K.Kit.meaning c.args.self.now.inner in
     let len = c.args.len in
-    let n = c.in-ok-cells.cells in
-    let long : white m ≤ len = omega (arith, c.width-of-white.ensures.is) in
+    let n = c.in_ok-cells.cells in
+    let long : white m ≤ len = omega (arith, c.width_of-white.ensures.is) in
     let rises : c.risen.result ≡ told (risen (m.need (len - white m))) =
-    c.risen.ensures (m.need (len - 2 * c.width-of-white.result)) c.need.ensures
-    ∙ ap (λ w. told (risen (m.need (len - 2 * w)))) c.width-of-white.ensures.is in
-    let accepts : risen (m.need (len - white m)) ≡ Ok n = told_ok (risen (m.need (len - white m))) n (sym rises ∙ c.in-ok-cells.was) in
-    c.bounded.ensures ∙ ap (λ w. told (bounded len (n + 2 * w / 16))) c.width-of-white.ensures.is
+    c.risen.ensures (m.need (len - 2 * c.width_of-white.result)) c.need.ensures
+    ∙ ap (λ w. told (risen (m.need (len - 2 * w)))) c.width_of-white.ensures.is in
+    let accepts : risen (m.need (len - white m)) ≡ Ok n = told_ok (risen (m.need (len - white m))) n (sym rises ∙ c.in_ok-cells.was) in
+    c.bounded.ensures ∙ ap (λ w. told (bounded len (n + 2 * w / 16))) c.width_of-white.ensures.is
     ∙ sym (ap told (need_long m len long ∙ ap (λ r. both len r (Ok (white_cells m))) accepts))

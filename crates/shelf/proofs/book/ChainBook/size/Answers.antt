@@ -6,8 +6,8 @@ use Rattle.refusal.proofs.Checks.{told_later}
 use Rattle.shelf.proofs.Fresh.{fresh_empty, fresh_sum, fresh_within, fresh_apart, fresh_ends}
 use Rattle.shelf.proofs.book.ChainBook.size.Goals as goal
 
-pub invariant-of-self : goal.invariant-of-self
-invariant-of-self c =
+pub invariant_of-self : goal.invariant_of-self
+invariant_of-self c =
     let b = c.args.self.now in
     let none : sum b.len ≡ 0 = omega (arith, b.whole) in
     let n = c.args.n in (

@@ -5,15 +5,15 @@ use Rattle.shelf.proofs.Unlink.{freed_sum, freed_within, freed_separate, freed_e
 use Rattle.shelf.specs.declared.book.ChainBook.{ChainBook}
 use Rattle.shelf.proofs.book.ChainBook.unlink.Goals as goal
 
-pub overflow-add-self : goal.overflow-add-self
-overflow-add-self c =
+pub overflow_add-self : goal.overflow_add-self
+overflow_add-self c =
     let b = c.args.self.now in
     let one = get_or-le-sum_by (λ x. x) b.len c.args.chain 0 (omega arith) in
     let two = get_or-le-sum_by (λ x. x) b.len 16 0 (omega arith) in
     omega (arith, b.whole, b.few)
 
-pub invariant-of-self : goal.invariant-of-self
-invariant-of-self c =
+pub invariant_of-self : goal.invariant_of-self
+invariant_of-self c =
     let b = c.args.self.now in
     let r = ready_of b c.args.chain c.requires.0 (omega arith) in
     (b.few, (freed_sum r c.requires.1 ∙ b.whole, (freed_within r c.requires.1, (freed_separate r c.requires.1, (freed_ends r c.requires.1, tt)))))

@@ -27,13 +27,13 @@ module _ (b : ChainBook) (chain i n : ℕ) (low : chain < 16) (row : i < get_or 
   inside = omega (arith, b.within chain i (omega arith, row))
 
 -- what `admit` refuses is passed on
-pub returns-in-err-admit : goal.returns-in-err-admit
-returns-in-err-admit c =
+pub returns-in_err-admit : goal.returns-in_err-admit
+returns-in_err-admit c =
     let p = err_from_is_err_and c.from-residual.result c.from-residual.ensures.1 in
-    answers_early (access_checks c.args.self.now.book.size (length c.args.cells.now) c.args.chain) _ c.from-residual.result _ _ _ _ p.1 p.2 c.in-err-admit.ensures refl
+    answers_early (access_checks c.args.self.now.book.size (length c.args.cells.now) c.args.chain) _ c.from-residual.result _ _ _ _ p.1 p.2 c.in_err-admit.ensures refl
 
-pub overflow-mul-due : goal.overflow-mul-due
-overflow-mul-due c = omega (arith, c.count-count.ensures.cells, places_few c.args.self.now.book c.args.chain)
+pub overflow_mul-due : goal.overflow_mul-due
+overflow_mul-due c = omega (arith, c.count-count.ensures.cells, places_few c.args.self.now.book c.args.chain)
 
 pub returns-then-out-due : goal.returns-then-out-due
 returns-then-out-due c =

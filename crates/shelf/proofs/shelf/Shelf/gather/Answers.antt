@@ -14,10 +14,10 @@ use Rattle.shelf.proofs.Grow.{below_places}
 use Rattle.shelf.proofs.Access.{admitted, third_due, third_clear}
 use Rattle.shelf.proofs.shelf.Shelf.gather.Goals as goal
 
-pub returns-in-err-admit : goal.returns-in-err-admit
-returns-in-err-admit g c =
+pub returns-in_err-admit : goal.returns-in_err-admit
+returns-in_err-admit g c =
     let p = err_from_is_err_and c.from-residual.result c.from-residual.ensures.1 in
-    answers_early (access_checks c.args.self.now.book.size (length c.args.cells.now) c.args.chain) _ c.from-residual.result _ _ _ _ p.1 p.2 c.in-err-admit.ensures refl
+    answers_early (access_checks c.args.self.now.book.size (length c.args.cells.now) c.args.chain) _ c.from-residual.result _ _ _ _ p.1 p.2 c.in_err-admit.ensures refl
 
 pub returns-then-out-count : goal.returns-then-out-count
 returns-then-out-count g c =

@@ -13,8 +13,8 @@ returns-clause-writes g c plain ok =
     let d = c.hex_digit-d.ensures in
     let e = c.hex_digit-e.ensures in
     let f = c.hex_digit-g.ensures in
-    let h = c.hex-digit-h.ensures in
-    let i = c.hex-digit-i.ensures in
+    let h = c.hex_digit-h.ensures in
+    let i = c.hex_digit-i.ensures in
     subst (λ bs. HasWritten g.W.Write.write_str_gives c.args.f.now bs c.write.new.self)
     (then a.ascii a.glyph (then b.ascii b.glyph (then c₂.ascii c₂.glyph (then d.ascii d.glyph
     (then e.ascii e.glyph (then f.ascii f.glyph (then h.ascii h.glyph (last i.ascii i.glyph))))))))
