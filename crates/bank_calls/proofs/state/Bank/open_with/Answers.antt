@@ -36,7 +36,7 @@ returns-in_err-link g c =
     let known : unknown a ≡ false = (none_due (unknown a) Mode None c.in_ok-mode.ensures.told).0 in
     let takes : m.need (length c.args.key.now) ≡ Ok n = told_ok (m.need (length c.args.key.now)) n (sym c.in_ok-need.ensures) in
     let whole : length c.args.start.now ≡ m.width = c.if-start-width.false ∙ c.width-width.ensures ∙ sym (g.met.K.Kit.width b.kit) in
-    let p = err_from_is_err_and c.from-residual-in_err-link.result c.from-residual-in_err-link.ensures.1 in
+    let p = err_from_is_err_and c.from_residual-in_err-link.result c.from_residual-in_err-link.ensures.1 in
     let told = c.in_err-link.ensures.told ∙ room_alike b memory (length memory) n ∙ sym (room_told m b.shelf.book.size _ (free (standing b.shelf.book)) a refl known n takes whole) in
     let P : Result ℕ Refusal → Type 0 = λ r. Opens m (books b memory) a r (books b memory) × MatchResult r (λ i. Takes m b memory a i b memory) (λ _. Kept b b × (memory ≡ memory)) in
     let q : P _ = subst P (sym (p.1 ∙ ap Err p.2)) (record { told = told; holds = kept_same b b (unchanged b b) memory }, (unchanged b b, refl)) in

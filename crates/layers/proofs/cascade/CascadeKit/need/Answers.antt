@@ -18,7 +18,7 @@ returns-in_err-ours g c =
     let m = g.A.Kit.meaning self.first in
     let n = g.B.Kit.meaning self.second in
     let len = c.args.len in
-    let p = err_from_is_err_and c.from-residual.result c.from-residual.ensures.1 in
+    let p = err_from_is_err_and c.from_residual.result c.from_residual.ensures.1 in
     let rises = c.risen.ensures (m.need self.split) c.need.ensures in
     p.1 ∙ ap Err p.2
     ∙ sym (ap told (need_long self.split m n len c.if-len-self.false)
@@ -31,7 +31,7 @@ returns-in_err-others g c =
     let n = g.B.Kit.meaning self.second in
     let len = c.args.len in
     let ours = c.in_ok-ours.ours in
-    let p = err_from_is_err_and c.from-residual-in_err-others.result c.from-residual-in_err-others.ensures.1 in
+    let p = err_from_is_err_and c.from_residual-in_err-others.result c.from_residual-in_err-others.ensures.1 in
     let rises_first = c.risen.ensures (m.need self.split) c.need.ensures in
     let rises = c.risen-2.ensures (n.need (len - self.split)) c.need-2.ensures in
     p.1 ∙ ap Err p.2

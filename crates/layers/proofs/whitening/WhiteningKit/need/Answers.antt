@@ -19,7 +19,7 @@ returns-in_err-cells g c =
     let m = g.K.Kit.meaning c.args.self.now.inner in
     let len = c.args.len in
     let long : white m ≤ len = omega (arith, c.width_of-white.ensures.is) in
-    let p = err_from_is_err_and c.from-residual.result c.from-residual.ensures.1 in
+    let p = err_from_is_err_and c.from_residual.result c.from_residual.ensures.1 in
     let rises : c.risen.result ≡ told (risen (m.need (len - white m))) =
     c.risen.ensures (m.need (len - 2 * c.width_of-white.result)) c.need.ensures
     ∙ ap (λ w. told (risen (m.need (len - 2 * w)))) c.width_of-white.ensures.is in

@@ -10,19 +10,14 @@ pub invariant_of-self : goal.invariant_of-self
 invariant_of-self c =
     let b = c.args.self.now in
     let none : sum b.len ≡ 0 = omega (arith, b.whole) in
-    let n = c.args.n in (
-      omega arith,
-      (
-        fresh_sum _ b.first b.last b.len n (omega arith) c.line-self.ensures (omega arith) (omega arith) none,
-        (
-          fresh_within _ b.first b.last b.len n (omega arith) c.line-self.ensures (omega arith) (omega arith) none,
-          (
-            fresh_apart _ b.first b.last b.len n (omega arith) c.line-self.ensures (omega arith) (omega arith) none,
-            (fresh_ends _ b.first b.last b.len n (omega arith) c.line-self.ensures (omega arith) (omega arith) none, tt),
-          ),
-        ),
-      ),
-    )
+    let n = c.args.n in
+    record {
+      few = omega arith;
+      whole = fresh_sum _ b.first b.last b.len n (omega arith) c.line-self.ensures (omega arith) (omega arith) none;
+      within = fresh_within _ b.first b.last b.len n (omega arith) c.line-self.ensures (omega arith) (omega arith) none;
+      apart = fresh_apart _ b.first b.last b.len n (omega arith) c.line-self.ensures (omega arith) (omega arith) none;
+      ends = fresh_ends _ b.first b.last b.len n (omega arith) c.line-self.ensures (omega arith) (omega arith) none;
+    }
 
 pub returns : goal.returns
 returns c =

@@ -16,7 +16,13 @@ pub invariant_of-self : goal.invariant_of-self
 invariant_of-self c =
     let b = c.args.self.now in
     let r = ready_of b c.args.chain c.requires.0 (omega arith) in
-    (b.few, (freed_sum r c.requires.1 ∙ b.whole, (freed_within r c.requires.1, (freed_separate r c.requires.1, (freed_ends r c.requires.1, tt)))))
+    record {
+      few = b.few;
+      whole = freed_sum r c.requires.1 ∙ b.whole;
+      within = freed_within r c.requires.1;
+      apart = freed_separate r c.requires.1;
+      ends = freed_ends r c.requires.1;
+    }
 
 pub returns : goal.returns
 returns c =

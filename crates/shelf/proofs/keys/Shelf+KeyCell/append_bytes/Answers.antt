@@ -17,9 +17,9 @@ pub returns-in_err-admit : goal.returns-in_err-admit
 returns-in_err-admit c =
     let s = standing c.args.self.now.book in
     let cells = c.args.cells.now in
-    let p = err_from_is_err_and c.from-residual.result c.from-residual.ensures.1 in
-    let did : Append s cells c.args.chain (key_cells c.args.bytes.now) c.from-residual.result s cells =
-    answers_early (access_checks s.size (length cells) c.args.chain) _ c.from-residual.result _ _ _ _ p.1 p.2 c.in_err-admit.ensures (refl, refl) in
+    let p = err_from_is_err_and c.from_residual.result c.from_residual.ensures.1 in
+    let did : Append s cells c.args.chain (key_cells c.args.bytes.now) c.from_residual.result s cells =
+    answers_early (access_checks s.size (length cells) c.args.chain) _ c.from_residual.result _ _ _ _ p.1 p.2 c.in_err-admit.ensures (refl, refl) in
     record { outcome = did; kept = λ _. refl; past = adds_append s _ _ _ _ s _ did }
 
 pub returns-then-free-count : goal.returns-then-free-count

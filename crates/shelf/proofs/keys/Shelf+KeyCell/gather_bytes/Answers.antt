@@ -29,8 +29,8 @@ module _ (b : ChainBook) (chain i n : ℕ) (low : chain < 16) (row : i < get_or 
 -- what `admit` refuses is passed on
 pub returns-in_err-admit : goal.returns-in_err-admit
 returns-in_err-admit c =
-    let p = err_from_is_err_and c.from-residual.result c.from-residual.ensures.1 in
-    answers_early (access_checks c.args.self.now.book.size (length c.args.cells.now) c.args.chain) _ c.from-residual.result _ _ _ _ p.1 p.2 c.in_err-admit.ensures refl
+    let p = err_from_is_err_and c.from_residual.result c.from_residual.ensures.1 in
+    answers_early (access_checks c.args.self.now.book.size (length c.args.cells.now) c.args.chain) _ c.from_residual.result _ _ _ _ p.1 p.2 c.in_err-admit.ensures refl
 
 pub overflow_mul-due : goal.overflow_mul-due
 overflow_mul-due c = omega (arith, c.count-count.ensures.cells, places_few c.args.self.now.book c.args.chain)

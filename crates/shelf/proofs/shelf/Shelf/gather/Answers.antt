@@ -16,8 +16,8 @@ use Rattle.shelf.proofs.shelf.Shelf.gather.Goals as goal
 
 pub returns-in_err-admit : goal.returns-in_err-admit
 returns-in_err-admit g c =
-    let p = err_from_is_err_and c.from-residual.result c.from-residual.ensures.1 in
-    answers_early (access_checks c.args.self.now.book.size (length c.args.cells.now) c.args.chain) _ c.from-residual.result _ _ _ _ p.1 p.2 c.in_err-admit.ensures refl
+    let p = err_from_is_err_and c.from_residual.result c.from_residual.ensures.1 in
+    answers_early (access_checks c.args.self.now.book.size (length c.args.cells.now) c.args.chain) _ c.from_residual.result _ _ _ _ p.1 p.2 c.in_err-admit.ensures refl
 
 pub returns-then-out-count : goal.returns-then-out-count
 returns-then-out-count g c =

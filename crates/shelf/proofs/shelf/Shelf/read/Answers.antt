@@ -16,9 +16,9 @@ pub returns-in_err-admit : goal.returns-in_err-admit
 returns-in_err-admit g c =
     let s = standing c.args.self.now.book in
     let cells = c.args.cells.now in
-    let p = err_from_is_err_and c.from-residual.result c.from-residual.ensures.1 in
-    let did : Read s cells c.args.chain c.args.position c.from-residual.result =
-    answers_early (access_checks s.size (length cells) c.args.chain) _ c.from-residual.result _ _ _ _ p.1 p.2 c.in_err-admit.ensures tt in
+    let p = err_from_is_err_and c.from_residual.result c.from_residual.ensures.1 in
+    let did : Read s cells c.args.chain c.args.position c.from_residual.result =
+    answers_early (access_checks s.size (length cells) c.args.chain) _ c.from_residual.result _ _ _ _ p.1 p.2 c.in_err-admit.ensures tt in
     record { outcome = did; past = adds_read s _ _ _ _ did }
 
 pub returns-then-position-count : goal.returns-then-position-count
