@@ -1,7 +1,7 @@
 -- The law of banks. Assumes nothing.
-use Rattle.std.proofs.Common.{◌≡◌, ℕ, ◌*◌, ◌<◌, Bool, true, false, cond, not, eqb, ltb, ◌⊎◌, List, [], ◌∷◌, ◌++◌, length, Some, None, Ok, Err, Option, Result, sym, refl, ap, ◌∙◌, subst, inl, inr, ⊎_elim, append-nil, arith}
+use Rattle.std.proofs.Common.{◌≡◌, ℕ, ◌<◌, Bool, true, false, cond, not, eqb, ltb, List, [], ◌∷◌, ◌++◌, length, Some, None, Ok, Err, Result, sym, refl, ap, ◌∙◌, subst, ⊎_elim, append-nil, arith}
 use Rattle.std.proofs.lemmas.Bool.{eqb-true, not-false, both_ways}
-use Rattle.refusal.specs.Checks.{first, refusal}
+use Rattle.refusal.specs.Checks.{first}
 use Rattle.refusal.specs.declared.KeyFault.{KeyFault}
 use Rattle.refusal.specs.declared.Refusal.{Refusal}
 use Rattle.refusal.specs.declared.Refusal.TheVariants.{Scratch, Memory, Cells, Mode as BadMode, Start, Links, Output, Ragged, Padding}
@@ -9,7 +9,7 @@ use Rattle.refusal.proofs.Checks.{none_due}
 use Rattle.block.specs.Bytes.{Bytes, Block}
 use Rattle.modes.specs.Modes.{Cipher, Ciphertext}
 use Rattle.modes.specs.Machine.{State, opened, after, given, closing, ragged, bare}
-use Rattle.modes.specs.Laws.{Enciphers, Alike, Agrees, Returned}
+use Rattle.modes.specs.Laws.{Enciphers, Agrees, Returned}
 use Rattle.modes.specs.declared.Mode.{Mode}
 use Rattle.modes.specs.declared.Direction.{Direction}
 use Rattle.modes.specs.declared.Direction.TheVariants.{Send, Receive}
@@ -20,12 +20,12 @@ use Rattle.kit.specs.Meaning.{Meaning, Sized, Sound, Agree}
 use Rattle.kit.specs.Calls.{enciphered, deciphered}
 use Rattle.kit.proofs.Calls.{enciphered_fits, deciphered_fits}
 use Rattle.bank.specs.Books.{Books, Running, tool}
-use Rattle.bank.specs.Calls.{Ask, Buffers, mode_of, direction_of, unknown, key_checks, need, start_checks, open_checks, link_checks, fresh, fed_link, given_link, last_bytes, end_tail, end_checks, Ends}
+use Rattle.bank.specs.Calls.{Ask, Buffers, mode_of, direction_of, unknown, key_checks, need, start_checks, open_checks, link_checks, fresh, fed_link, given_link, last_bytes, end_tail, Ends}
 use Rattle.bank.specs.Past.{Event, opens, ends, Ran, Session}
 use Rattle.bank.specs.Law.{keyed, Sends, Hears, Law}
-use Rattle.bank.proofs.Runs.{Last, last, earlier}
+use Rattle.bank.proofs.Runs.{last, earlier}
 use Rattle.bank.proofs.Totals.{told_ran, short_of_cells}
-use Rattle.bank.proofs.Sessions.{Live, session}
+use Rattle.bank.proofs.Sessions.{session}
 
 -- ---- what an accepted open has passed
 

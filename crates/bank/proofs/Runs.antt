@@ -1,9 +1,9 @@
 -- Runs and their earlier parts. Assumes nothing.
-use Rattle.std.proofs.Common.{◌≡◌, ℕ, ◌+◌, ◌<◌, ◌≤◌, ◌⊎◌, List, [], ◌∷◌, ◌++◌, Some, None, Ok, Err, Option, sym, refl, ap, ◌∙◌, subst, inl, inr, arith}
+use Rattle.std.proofs.Common.{◌≡◌, ℕ, ◌+◌, ◌<◌, ◌≤◌, List, [], ◌∷◌, ◌++◌, Some, None, Ok, Err, Option, sym, ap, ◌∙◌, inl, inr, arith}
 use Rattle.std.proofs.lemmas.Bool.{cases_eq}
 use Rattle.kit.specs.Meaning.{Meaning}
 use Rattle.bank.specs.Books.{Books, Running, cells_if_open, Same, Only}
-use Rattle.bank.specs.Calls.{fresh, fed_link, need, Struck}
+use Rattle.bank.specs.Calls.{fresh, fed_link, Struck}
 use Rattle.bank.specs.Past.{Event, opens, puts, ends, strikes, Step, Ran, starts, calls}
 
 -- what a call leaves: under one number something else, or nothing has changed at all

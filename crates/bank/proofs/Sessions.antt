@@ -1,16 +1,15 @@
 -- A link from its open on: what it took fixes its state and what it gave, whatever was called on other links. Assumes nothing.
-use Rattle.std.proofs.Common.{◌≡◌, ℕ, true, false, cond, eqb, ◌⊎◌, List, [], ◌∷◌, ◌++◌, Some, None, Ok, Err, Option, sym, refl, ap, ◌∙◌, subst, inl, inr, append-nil, arith}
+use Rattle.std.proofs.Common.{◌≡◌, ℕ, true, false, eqb, List, [], ◌∷◌, ◌++◌, Some, None, Ok, Err, Option, sym, refl, ap, ◌∙◌, inl, inr, append-nil, arith}
 use Rattle.std.proofs.lemmas.Bool.{eq-eqb, ne_eqb, cases_eq}
 use Rattle.refusal.specs.Checks.{first}
 use Rattle.block.specs.Bytes.{Bytes}
 use Rattle.block.proofs.Parts.{bytes_append}
-use Rattle.modes.specs.Machine.{State}
 use Rattle.modes.proofs.Pieces.{after_append, given_append}
 use Rattle.kit.specs.Meaning.{Meaning}
-use Rattle.bank.specs.Books.{Books, Running, tool, Same, Only}
+use Rattle.bank.specs.Books.{Books, Running, tool}
 use Rattle.bank.specs.Calls.{Ask, open_checks, fresh, fed_link, given_link, Struck}
-use Rattle.bank.specs.Past.{Event, opens, puts, ends, strikes, Step, Ran, took, gave, Stays}
-use Rattle.bank.proofs.Runs.{Last, last}
+use Rattle.bank.specs.Past.{Event, opens, puts, ends, strikes, Ran, took, gave, Stays}
+use Rattle.bank.proofs.Runs.{last}
 
 -- a link's two pieces are their join
 fed_twice : (m : Meaning) (l : Running) (x y : List ℕ) → fed_link m (fed_link m l x) y ≡ fed_link m l (x ++ y)

@@ -1,16 +1,16 @@
 -- The cells and the links of a bank, by its books and by its past. Assumes nothing.
-use Rattle.std.proofs.Common.{◌≡◌, ℕ, zero, suc, ◌+◌, ◌-◌, ◌<◌, ◌≤◌, true, false, cond, eqb, ltb, ◌⊎◌, List, [], ◌∷◌, ◌++◌, Some, None, Ok, Err, Option, Result, sym, refl, ap, ◌∙◌, subst, inl, inr, arith}
-use Rattle.std.proofs.lemmas.Bool.{eq-eqb, ne_eqb, cases_eq, cases_lt, ltb-true, lt-ltb, le-ltb}
+use Rattle.std.proofs.Common.{◌≡◌, ℕ, zero, suc, ◌+◌, ◌-◌, ◌<◌, ◌≤◌, true, false, cond, eqb, ltb, List, [], ◌∷◌, Some, None, Ok, Err, Option, Result, sym, refl, ap, ◌∙◌, inl, inr, arith}
+use Rattle.std.proofs.lemmas.Bool.{eq-eqb, ne_eqb, cases_eq, cases_lt, lt-ltb, le-ltb}
 use Rattle.refusal.specs.Checks.{first, refusal}
 use Rattle.refusal.specs.declared.Refusal.{Refusal}
 use Rattle.refusal.specs.declared.Refusal.TheVariants.{Cells}
 use Rattle.refusal.proofs.Checks.{told_here, told_later, told_after, refusal_err}
 use Rattle.kit.specs.Meaning.{Meaning}
-use Rattle.bank.specs.Books.{Books, Running, eight, one_if_open, cells_if_open, links, Same, Only}
+use Rattle.bank.specs.Books.{Books, Running, eight, one_if_open, cells_if_open, links, Only}
 use Rattle.bank.specs.Calls.{Ask, need, fresh, fed_link, early_checks, open_checks, Struck, Opens}
 use Rattle.bank.specs.Past.{Event, opens, puts, ends, strikes, Step, Ran, starts, calls, open_now, need_if_open, cells_now, links_now}
 use Rattle.bank.specs.Law.{ExactlyWhen, ShortOfCells, Told}
-use Rattle.bank.proofs.Runs.{Change, nothing, one, change, Last, last, earlier, size_ran, high_ran}
+use Rattle.bank.proofs.Runs.{Change, nothing, one, change, last, earlier, size_ran, high_ran}
 
 -- ---- sums over the eight links
 

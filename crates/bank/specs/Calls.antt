@@ -1,5 +1,5 @@
 -- What each call of a bank answers and leaves: its checks in order, and what holds once it is accepted. Assumes nothing.
-use Rattle.std.specs.Prelude.{◌≡◌, ℕ, zero, suc, ◌+◌, ◌<◌, Bool, true, false, cond, not, ◌||◌, ltb, List, [], ◌∷◌, ◌++◌, length, Some, None, Ok, Err, Option, Result, ◌==◌, nat_lt}
+use Rattle.std.specs.Prelude.{◌≡◌, ℕ, zero, suc, ◌+◌, ◌<◌, Bool, true, not, ◌||◌, ltb, List, [], ◌∷◌, ◌++◌, length, Some, None, Ok, Err, Option, Result, ◌==◌, nat_lt}
 use Rattle.refusal.specs.Checks.{Answers}
 use Rattle.refusal.specs.declared.KeyFault.{KeyFault}
 use Rattle.refusal.specs.declared.Refusal.{Refusal}

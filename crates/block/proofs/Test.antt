@@ -1,5 +1,5 @@
 -- A rule proved of every number below a bound by one test that antt computes. Assumes nothing.
-use Rattle.std.proofs.Common.{◌≡◌, ℕ, zero, suc, ◌<◌, Bool, true, false, T, eqb, ◌⊎◌, sym, subst, inl, inr, le_of_suc-le-suc, not-suc-le-zero, arith, eqb→eq}
+use Rattle.std.proofs.Common.{◌≡◌, ℕ, zero, suc, ◌<◌, Bool, true, false, T, ◌⊎◌, sym, subst, inl, inr, not-suc-le-zero, arith}
 
 abbrev pub both : Bool → Bool → Bool
 both true b = b

@@ -1,6 +1,8 @@
 // Blocks of bytes: the XOR of two, and each byte replaced by a table.
 // Promises what a block then holds, for blocks of any two lengths, and the three facts of XOR.
 // Rests on nothing.
+#![tactic(auto)]
+
 ghost use Rattle.std.specs.Prelude.{◌≡◌, length, take};
 ghost use Rattle.block.specs.Bytes.{xor, XorLaws};
 ghost use Rattle.block.specs.Table.{sub};

@@ -1,5 +1,5 @@
 -- The laws of the product of bytes, for every reduction polynomial. Assumes nothing.
-use Rattle.std.proofs.Common.{◌≡◌, ℕ, zero, suc, ◌+◌, ◌-◌, ◌*◌, ◌/◌, ◌%◌, ◌^◌, ◌<◌, ◌≤◌, Bool, true, T, eqb, sym, refl, ap, ◌∙◌, subst, ap₂, add-zero, mul-le-mul_right, mod-lt, zero-lt-suc, arith, eqb→eq}
+use Rattle.std.proofs.Common.{◌≡◌, ℕ, zero, suc, ◌+◌, ◌-◌, ◌*◌, ◌/◌, ◌%◌, ◌<◌, Bool, T, eqb, sym, refl, ap, ◌∙◌, ap₂, add-zero, mod-lt, zero-lt-suc, arith, eqb→eq}
 use lib.Bits.{bit_xor, xor_assoc, xor_comm, xor_self, xor_zero_r, xor_lt, xor_shr, xor_mod, xor_block}
 use Rattle.block.proofs.Test.{below, at}
 use Rattle.field.specs.Byte.{sel, times_x, mul_digits, mul}

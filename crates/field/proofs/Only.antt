@@ -1,6 +1,6 @@
 -- The product is what adds up over the digits of its second factor, and nothing else is. Assumes nothing.
-use Rattle.std.proofs.Common.{◌≡◌, ℕ, zero, suc, ◌+◌, ◌*◌, ◌/◌, ◌%◌, ◌^◌, ◌<◌, ◌≤◌, sym, refl, ap, ◌∙◌, ap₂, add-zero, zero-lt-suc, zero-add, arith}
-use lib.Bits.{bit_xor, xor_block, xor_zero_r, xor_comm}
+use Rattle.std.proofs.Common.{◌≡◌, ℕ, zero, suc, ◌+◌, ◌*◌, ◌/◌, ◌%◌, ◌<◌, sym, refl, ap, ◌∙◌, ap₂, add-zero, zero-lt-suc, zero-add, arith}
+use lib.Bits.{bit_xor, xor_block, xor_zero_r}
 use Rattle.field.specs.Byte.{sel, times_x, mul_digits, mul}
 use Rattle.field.specs.Laws.{Multiplies, FieldLaws}
 use Rattle.field.proofs.Laws.{mul_lt, mul_comm, mul_assoc, mul_xor_right, mul_one_left, mul_zero_right, mul_times_x, digits_times_x}

@@ -1,6 +1,8 @@
 // Bytes as polynomials over GF(2), modulo x^8 + poly: products, rows times columns, matrices times columns.
 // Promises the product that the laws of the field fix, at every polynomial, and that an inverse matrix undoes a matrix.
 // Rests on the bytes of crate block.
+#![tactic(auto)]
+
 ghost use Rattle.std.specs.Prelude.{◌≡◌, ℕ, ◌<◌};
 ghost use Rattle.block.specs.Bytes.{fitted};
 ghost use Rattle.field.specs.Byte.{times_x, mul as product};

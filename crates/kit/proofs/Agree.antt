@@ -1,7 +1,7 @@
 -- Kits that agree on a key decipher alike under it. Assumes nothing.
 use Rattle.std.proofs.Common.{◌≡◌, ℕ, List, length, Ok, sym, ap, ◌∙◌, subst}
 use Rattle.block.specs.Bytes.{Bytes, Block}
-use Rattle.kit.specs.Meaning.{Meaning, Sized, Sound, Agree, AgreeBack}
+use Rattle.kit.specs.Meaning.{Meaning, Sized, Sound, AgreeBack}
 
 -- a key that is accepted has a schedule that fits
 pub sized : (m : Meaning) → Sound m → (n : ℕ) (key b : List ℕ) → m.need (length key) ≡ Ok n → Bytes key → Block m.width b

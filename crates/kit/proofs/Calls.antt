@@ -1,5 +1,5 @@
 -- The calls of a kit where nothing is refused, and what they keep in any case. Assumes nothing.
-use Rattle.std.proofs.Common.{◌≡◌, ℕ, ◌*◌, Bool, true, false, not, eqb, List, [], ◌∷◌, length, Some, None, Ok, Err, Option, Result, sym, refl, ap, ◌∙◌, subst, arith}
+use Rattle.std.proofs.Common.{◌≡◌, ℕ, ◌*◌, Bool, true, false, not, eqb, List, [], ◌∷◌, length, Some, None, Ok, Err, Option, Result, sym, refl, ap, ◌∙◌, arith}
 use Rattle.std.proofs.lemmas.Bool.{eq-eqb, ne_eqb, eqb-true}
 use Rattle.refusal.specs.declared.KeyFault.{KeyFault}
 use Rattle.refusal.specs.declared.Refusal.{Refusal}
@@ -7,7 +7,7 @@ use Rattle.refusal.specs.declared.Refusal.TheVariants.{Key, Block as WrongSize}
 use Rattle.refusal.specs.Checks.{first, refusal}
 use Rattle.block.specs.Bytes.{Bytes, Block}
 use Rattle.kit.specs.Meaning.{Meaning, Sized, Sound}
-use Rattle.kit.specs.Calls.{told, expand_checks, cipher_checks, unless, expand_refusal, cipher_refusal, expanded, enciphered, deciphered}
+use Rattle.kit.specs.Calls.{told, expand_checks, cipher_checks, unless, cipher_refusal, expanded, enciphered, deciphered}
 
 -- ---- the checks, by the answer to the key's length
 

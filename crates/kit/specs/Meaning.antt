@@ -1,6 +1,6 @@
 -- What a kit means: one value that no call changes. Assumes nothing.
 -- A kit is a block cipher with all its key lengths. A cell is 16 bytes of a schedule.
-use Rattle.std.specs.Prelude.{◌≡◌, ℕ, ◌*◌, ◌≤◌, ◌⊎◌, List, length, Ok, Err, Result}
+use Rattle.std.specs.Prelude.{◌≡◌, ℕ, ◌*◌, ◌≤◌, ◌⊎◌, List, length, Ok, Result}
 use Rattle.refusal.specs.declared.KeyFault.{KeyFault}
 use Rattle.block.specs.Bytes.{Bytes, Block}
 

@@ -1,6 +1,8 @@
 // The interface of block ciphers: a kit, its width, and what each of its calls answers.
 // Promises over a kit's meaning alone which refusal each call tells, first due first, and what its buffer then holds.
 // Rests on the reasons of crate refusal and the bytes of crate block.
+#![tactic(auto)]
+
 ghost use Rattle.std.specs.Prelude.{◌≡◌, ℕ, ◌⊎◌};
 ghost use Rattle.refusal.specs.Checks.{refusal};
 ghost use Rattle.kit.specs.Meaning.{Meaning, Sound, AgreeBack};

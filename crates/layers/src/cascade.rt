@@ -5,7 +5,8 @@ ghost use Rattle.std.specs.Prelude.{◌≡◌, ◌≤◌, length, IfOk};
 ghost use Rattle.refusal.specs.Checks.{refusal};
 ghost use Rattle.layers.specs.Depth.{due_of_schedule, due_of_block};
 ghost use Rattle.layers.specs.Cascaded.{bytes_of, cascaded, Parted, Cascades};
-ghost use Rattle.std.proofs.Common.{rules};
+ghost use Rattle.layers.specs.CascadesLemmas.{sound_cascaded};
+ghost use Rattle.std.proofs.Common.{rules, sym, ◌∙◌};
 
 use crate::{bounded, refused_here, risen, width_of};
 use kit::Kit;
@@ -78,6 +79,8 @@ impl<A: Kit, B: Kit<Width = A::Width>> Kit for Cascade<A, B> {
     ghost meaning = { λ k. cascaded k.split (A.Kit.meaning k.first) (B.Kit.meaning k.second) };
 
     ghost width = { Prim.search rules };
+
+    ghost sound = { λ k. sound_cascaded k.split (A.Kit.meaning k.first) (B.Kit.meaning k.second) (A.Kit.sound k.first) (B.Kit.sound k.second) (B.Kit.width k.second ∙ sym (A.Kit.width k.first)) };
 
     fn need(&self, len: usize) -> Result<usize, Refusal> {
         if len < self.split {

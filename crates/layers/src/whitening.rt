@@ -5,6 +5,7 @@ ghost use Rattle.std.specs.Prelude.{◌≡◌, length, IfOk};
 ghost use Rattle.refusal.specs.Checks.{refusal};
 ghost use Rattle.layers.specs.Depth.{due_of_block};
 ghost use Rattle.layers.specs.Whitened.{whitened, Parted, Whitens};
+ghost use Rattle.layers.specs.WhitensLemmas.{sound_whitened};
 ghost use Rattle.std.proofs.Common.{rules};
 
 use crate::{bounded, refused_here, risen, width_of};
@@ -62,6 +63,8 @@ impl<K: Kit> Kit for Whitening<K> {
     ghost meaning = { λ k. whitened (K.Kit.meaning k.inner) };
 
     ghost width = { Prim.search rules };
+
+    ghost sound = { λ k. sound_whitened (K.Kit.meaning k.inner) (K.Kit.sound k.inner) };
 
     fn need(&self, len: usize) -> Result<usize, Refusal> {
         let white = 2 * width_of(&self.inner);

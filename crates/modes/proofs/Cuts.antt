@@ -1,5 +1,5 @@
 -- Bytes are cut in blocks in one way, so that a text has one ciphertext. Assumes nothing.
-use Rattle.std.proofs.Common.{◌≡◌, ℕ, ◌+◌, ◌<◌, List, [], ◌∷◌, ◌++◌, length, take, drop, sym, refl, ap, ◌∙◌, ap₂, append-nil, arith, length-append}
+use Rattle.std.proofs.Common.{◌≡◌, ℕ, ◌<◌, List, [], ◌∷◌, ◌++◌, length, take, drop, sym, refl, ap, ◌∙◌, ap₂, append-nil, arith, length-append}
 use Rattle.std.proofs.lemmas.List.{take_at, drop_at}
 use Rattle.modes.specs.Modes.{Cipher, onward, Sends, Chain, ends, goes, Cut, none, short, whole}
 use Rattle.modes.specs.Laws.{concat, OneCiphertext}

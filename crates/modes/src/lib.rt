@@ -1,6 +1,8 @@
 // The modes CBC, CFB and OFB over any block cipher, and the byte machine of a link.
 // Promises that receiving inverts sending, for every text, in all modes, however the bytes are cut into pieces.
 // Rests on the bytes and the XOR of crate block.
+#![tactic(auto)]
+
 ghost use Rattle.modes.specs.Laws.{PiecesJoin, SendsCiphertext, OneCiphertext, SameCiphertext, ReceivingInverts, ReceivesPlaintext, ReceivesCiphertext, Counts, EndsCount};
 
 pub mod join;

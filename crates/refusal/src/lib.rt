@@ -1,6 +1,8 @@
 // Why a call is refused: one reason for each number from 1 to 16, told in words.
 // Promises each reason its number, and what is written of it.
 // Rests on nothing.
+#![tactic(auto)]
+
 ghost use Rattle.std.specs.Prelude.{◌≡◌, Some};
 ghost use Rattle.refusal.specs.Numbers.{number as numbered};
 ghost use Rattle.refusal.specs.Words.{words};

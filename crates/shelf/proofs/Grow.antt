@@ -1,11 +1,11 @@
 -- One more item appended. Assumes nothing.
-use Rattle.std.proofs.Common.{◌≡◌, ℕ, zero, suc, ◌+◌, ◌<◌, ◌≤◌, ◌⊎◌, List, [], ◌∷◌, ◌++◌, map, length, get_or, take, drop, set, sym, refl, ap, ◌∙◌, subst, inl, inr, append_assoc, add-zero, arith, length-append}
+use Rattle.std.proofs.Common.{◌≡◌, ℕ, zero, suc, ◌+◌, ◌<◌, List, [], ◌∷◌, ◌++◌, map, length, get_or, set, sym, refl, ap, ◌∙◌, subst, inl, inr, append_assoc, add-zero, arith}
 use Rattle.std.specs.List.{range_with_len}
 use Rattle.std.proofs.lemmas.List.{append-nil, length_push, length-set}
 use Rattle.std.proofs.lemmas.Bool.{cases_eq}
 use Rattle.shelf.specs.Links.{cell_at}
 use Rattle.shelf.specs.Standing.{Standing, places}
-use Rattle.shelf.specs.Items.{pick, items_at, list, Without, Disjoint, Below}
+use Rattle.shelf.specs.Items.{pick, items_at, list, Without, Below}
 use Rattle.shelf.specs.Calls.{Grown}
 use Rattle.shelf.specs.declared.book.ChainBook.{ChainBook}
 use Rattle.shelf.proofs.Pick.{without_left, without_right, disjoint_push, distinct_push, below_append, pick_other, pick_same, items_append, items_other}

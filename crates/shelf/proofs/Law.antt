@@ -1,15 +1,15 @@
 -- The law of every past of a shelf. Assumes nothing.
-use Rattle.std.proofs.Common.{◌≡◌, ℕ, ◌+◌, ◌-◌, ◌<◌, ◌≤◌, Bool, true, false, cond, not, eqb, ltb, leb, ◌⊎◌, List, [], ◌∷◌, ◌++◌, length, Some, None, Ok, Err, Result, sym, refl, ap, ◌∙◌, subst, inl, inr, arith, length-append}
+use Rattle.std.proofs.Common.{◌≡◌, ℕ, ◌+◌, ◌<◌, ◌≤◌, false, cond, eqb, ltb, leb, List, [], ◌∷◌, ◌++◌, length, Some, Ok, Err, Result, sym, refl, ap, ◌∙◌, subst, inl, inr, arith, length-append}
 use Rattle.std.specs.List.{slice_get}
-use Rattle.std.proofs.lemmas.Bool.{cases_eq, cases_lt, eq-eqb, ne_eqb, eqb-true, eqb-false, ltb-true, ltb-false, lt-ltb, le-ltb, leb-true, leb-false, le-leb, lt-leb, cond-true, cond-false, not-false, cases_Bool, both_ways}
-use Rattle.refusal.specs.Checks.{Answers, first, refusal}
+use Rattle.std.proofs.lemmas.Bool.{cases_eq, cases_lt, eq-eqb, ne_eqb, ltb-true, ltb-false, lt-ltb, leb-true, le-leb, cond-true, cond-false}
+use Rattle.refusal.specs.Checks.{first, refusal}
 use Rattle.refusal.specs.declared.Refusal.{Refusal}
-use Rattle.refusal.specs.declared.Refusal.TheVariants.{Memory, Chain, Position, Cells}
+use Rattle.refusal.specs.declared.Refusal.TheVariants.{Position, Cells}
 use Rattle.refusal.proofs.Checks.{told_here}
 use Rattle.shelf.specs.Standing.{Standing, total, free}
 use Rattle.shelf.specs.Items.{items_at, list, Below}
-use Rattle.shelf.specs.Calls.{append_checks, read_checks, Empty, Grown, Emptied, Sizing, Append, Read, Drop}
-use Rattle.shelf.specs.Past.{Call, append, read, drop, left, room, ExactlyWhen, AppendDue, ReadDue, Lawful, Shown, its_own, another, Ran, starts, appends, reads, drops, LawAfter, Law, AddsAppend, AddsRead, AddsDrop}
+use Rattle.shelf.specs.Calls.{append_checks, read_checks, Grown, Emptied, Sizing, Append, Read, Drop}
+use Rattle.shelf.specs.Past.{Call, append, drop, left, room, AppendDue, ReadDue, Lawful, Shown, its_own, another, Ran, starts, appends, reads, drops, Law, AddsAppend, AddsRead, AddsDrop}
 use Rattle.shelf.proofs.Access.{third_exactly, passed}
 use Rattle.shelf.proofs.Pick.{length_items, below_append}
 use Rattle.shelf.proofs.Totals.{total_same, total_none, total_raised, total_fallen}

@@ -1,8 +1,8 @@
 -- Steps along changed links. Assumes nothing.
-use Rattle.std.proofs.Common.{◌≡◌, ℕ, zero, suc, ◌+◌, ◌-◌, ◌<◌, ◌≤◌, List, [], ◌∷◌, map, length, get_or, set, sym, refl, ap, ◌∙◌, ap₂, add-zero, add-suc, add-one, arith, get_or-set_other, get_or-set_same}
+use Rattle.std.proofs.Common.{◌≡◌, ℕ, zero, suc, ◌+◌, ◌<◌, List, ◌∷◌, map, get_or, set, refl, ap, ◌∙◌, ap₂, add-zero, add-suc, add-one, arith, get_or-set_other}
 use Rattle.std.specs.List.{range_with_len}
 use Rattle.shelf.specs.Items.{Without}
-use Rattle.shelf.specs.Links.{step, cell_at}
+use Rattle.shelf.specs.Links.{step}
 
 -- one link on from the start is one link on at the end
 pub step_shift : (next : List ℕ) (a p : ℕ) → step next (get_or next a 0) p ≡ step next a (p + 1)

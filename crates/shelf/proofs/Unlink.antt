@@ -1,5 +1,5 @@
 -- A chain goes to the front of the free cells: what the tables then say. Assumes nothing.
-use Rattle.std.proofs.Common.{◌≡◌, ℕ, zero, suc, ◌+◌, ◌-◌, ◌<◌, ◌≤◌, ◌⊎◌, List, [], map, length, get_or, set, sum, sym, refl, ap, ◌∙◌, inl, inr, arith, get_or-set_other, get_or-set_same}
+use Rattle.std.proofs.Common.{◌≡◌, ℕ, ◌+◌, ◌-◌, ◌<◌, List, [], map, length, get_or, set, sum, sym, ap, ◌∙◌, inl, inr, arith, get_or-set_other, get_or-set_same}
 use Rattle.std.specs.List.{range_with_len}
 use Rattle.std.proofs.lemmas.List.{length-set}
 use Rattle.std.proofs.lemmas.List.Sums.{sum_by-set}
@@ -7,7 +7,7 @@ use Rattle.std.proofs.lemmas.Bool.{cases_eq, cases_lt}
 use Rattle.shelf.specs.Links.{step, cell_at, Within, Apart, Ends}
 use Rattle.shelf.proofs.Rows.{FreedFrom, front, behind, still, freed_inside, freed_apart}
 use Rattle.shelf.proofs.Moves.{step_add, same_counted}
-use Rattle.shelf.proofs.Link.{Ready, sep, ins, end_is, stays, leads}
+use Rattle.shelf.proofs.Link.{Ready, sep, ins, stays, leads}
 
 abbrev pub freed_len : List ℕ → ℕ → List ℕ
 freed_len len chain = set (set len 16 (get_or len 16 0 + get_or len chain 0)) chain 0

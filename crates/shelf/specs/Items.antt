@@ -1,5 +1,5 @@
 -- Items in cell memory, spoken of with no item at hand where there is none. Assumes nothing.
-use Rattle.std.specs.Prelude.{◌≡◌, ℕ, ◌<◌, List, [], ◌∷◌, ◌++◌, take, drop, ◌≢◌}
+use Rattle.std.specs.Prelude.{ℕ, ◌<◌, List, [], ◌∷◌, ◌++◌, take, drop, ◌≢◌}
 use Rattle.shelf.specs.Standing.{Standing}
 
 -- the item in cell k, as a list of one; past the memory, of none

@@ -2,6 +2,8 @@
 // Promises of every call its answer, the first refusal due, and what shelf and memory then hold; and of every past
 // that an append is refused for want of cells exactly when too few are free, and a read gives what was left there.
 // Rests on `refusal` alone: no heap, no search, no copy of the chains.
+#![tactic(auto)]
+
 mod book;
 mod keys;
 mod links;

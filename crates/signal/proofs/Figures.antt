@@ -1,5 +1,5 @@
 -- Steps of the loop that reads digits, and the parts of a time. Assumes nothing.
-use Rattle.std.proofs.Common.{◌≡◌, ℕ, zero, suc, ◌+◌, ◌-◌, ◌*◌, ◌^◌, ◌<◌, ◌≤◌, List, [], ◌∷◌, length, get_or, take, drop, ◌∙◌, subst, mul-le-mul_right, mul-le-mul_left, pow-suc, add-one, arith, pow-add}
+use Rattle.std.proofs.Common.{◌≡◌, ℕ, zero, suc, ◌+◌, ◌-◌, ◌*◌, ◌^◌, ◌<◌, ◌≤◌, List, [], ◌∷◌, length, get_or, take, drop, subst, mul-le-mul_left, pow-suc, add-one, arith, pow-add}
 use Rattle.std.specs.Char.{digit_value}
 use Rattle.std.specs.Str.Parse.{AllDigits, digits_value}
 use Rattle.signal.specs.Figures.{Figure, hours, minutes, last_two, seconds, TimeText}

@@ -1,6 +1,8 @@
 // The signal record: one beacon heard once. And the figures that people write of it: identity, distance, time.
 // Promises what a text is read as, and just when it is no such figure; and what is written of each.
 // Rests on nothing.
+#![tactic(auto)]
+
 mod read;
 mod record;
 mod write;

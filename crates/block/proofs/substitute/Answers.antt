@@ -1,4 +1,4 @@
-use Rattle.std.proofs.Common.{ℕ, ◌++◌, map, get_or, sym, ap, ◌∙◌, ap₂, arith}
+use Rattle.std.proofs.Common.{ℕ, ◌++◌, map, get_or, ◌∙◌, ap₂, arith}
 use Rattle.std.proofs.lemmas.List.{take_all, drop_all, append-nil, get_or_default}
 use Rattle.std.proofs.lemmas.List.Edits.{map_over_more}
 use Rattle.block.specs.Table.{sub}

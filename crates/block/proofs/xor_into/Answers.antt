@@ -1,9 +1,9 @@
-use Rattle.std.proofs.Common.{◌≡◌, ℕ, ◌<◌, ◌≤◌, min, length, get_or, take, set, sym, ap, ◌∙◌, arith}
+use Rattle.std.proofs.Common.{◌≡◌, ◌<◌, ◌≤◌, length, get_or, take, sym, ap, ◌∙◌, arith}
 use lib.Bits.{bit_xor, xor_zero_r}
-use Rattle.std.proofs.lemmas.List.{get_or-take, get_or_past}
+use Rattle.std.proofs.lemmas.List.{get_or_past}
 use Rattle.block.specs.Bytes.{xor}
-use Rattle.block.proofs.Xor.{getD_xor, length_cut, getD_cut}
-use Rattle.block.proofs.Loops.{over, over_more, over_read, over_all}
+use Rattle.block.proofs.Xor.{length_cut, getD_cut}
+use Rattle.block.proofs.Loops.{over_more, over_read, over_all}
 use Rattle.block.proofs.xor_into.Goals as goal
 
 pub loop-i-preserved : goal.loop-i-preserved

@@ -16,8 +16,8 @@ use Rattle.aes.specs.Cipher.{round as aes_round, last_round, rounds as aes_round
 use Rattle.aes.specs.Keys.{rot_word, sub_word, x_power, rcon, changed, next, longer, words, schedule as aes_schedule}
 use Rattle.modes.specs.Join.{join, part}
 use Rattle.modes.specs.Padding.{text_end}
-use Rattle.layers.specs.Whitened.{goal as white_need}
-use Rattle.layers.specs.Cascaded.{goal as two_need}
+use Rattle.layers.specs.Whitened.{need as white_need}
+use Rattle.layers.specs.Cascaded.{need as two_need}
 use Rattle.figures.specs.Banks.{bank_figures}
 use Rattle.figures.proofs.bank_figures_hold.Goals as goal
 

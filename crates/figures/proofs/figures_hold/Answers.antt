@@ -14,8 +14,8 @@ use Rattle.aes.specs.Tables.{s_box, s_box_inverse}
 use Rattle.aes.specs.Steps.{sub_bytes, inv_sub_bytes, moved, shift_rows, inv_shift_rows, mix_columns, inv_mix_columns, add_round_key}
 use Rattle.aes.specs.Cipher.{round as aes_round, last_round, rounds as aes_rounds, encipher as aes_encipher, inv_round, inv_last_round, inv_rounds, decipher as aes_decipher}
 use Rattle.aes.specs.Keys.{rot_word, sub_word, x_power, rcon, changed, next, longer, words, schedule as aes_schedule}
-use Rattle.layers.specs.Whitened.{goal as white_need}
-use Rattle.layers.specs.Cascaded.{goal as two_need}
+use Rattle.layers.specs.Whitened.{need as white_need}
+use Rattle.layers.specs.Cascaded.{need as two_need}
 use Rattle.figures.specs.Figures.{worked, aes_worked, figures}
 use Rattle.figures.proofs.figures_hold.Goals as goal
 

@@ -1,6 +1,6 @@
-use Rattle.std.proofs.Common.{◌≡◌, ◌≤◌, length, sym, ◌∙◌, subst, arith}
+use Rattle.std.proofs.Common.{◌≡◌, sym, ◌∙◌, subst}
 use Rattle.signal.specs.Figures.{TimeText, seconds}
-use Rattle.signal.proofs.Figures.{Parts, cut, same, is_time, told}
+use Rattle.signal.proofs.Figures.{cut, same, is_time, told}
 use Rattle.signal.proofs.read.clock.Goals as goal
 
 pub returns-in-Some-total : goal.returns-in-Some-total

@@ -1,9 +1,9 @@
 use Rattle.std.proofs.Common.{◌≡◌, ◌≤◌, sym, ap, ◌∙◌, rules}
 use Rattle.kit.specs.Calls.{told}
 use Rattle.kit.proofs.Calls.{expand_passes, told_ok}
-use Rattle.layers.specs.Cascaded.{goal as cascaded_need}
-use Rattle.layers.proofs.Answers.{refused_not_ok}
-use Rattle.layers.proofs.Cascades.{accepted, told_accepted, bytes_are, begins}
+use Rattle.layers.specs.Cascaded.{need as cascaded_need}
+use Rattle.layers.specs.AnswersLemmas.{refused_not_ok}
+use Rattle.layers.specs.CascadesLemmas.{accepted, told_accepted, bytes_are, begins}
 use Rattle.layers.proofs.cascade.Cascade.end_of_first.Goals as goal
 
 pub overflow_mul-cells : goal.overflow_mul-cells

@@ -1,5 +1,5 @@
 use Rattle.std.proofs.Common.{sym, refl, ◌∙◌}
-use Rattle.layers.proofs.Cascades.{law}
+use Rattle.layers.specs.CascadesLemmas.{law}
 use Rattle.layers.proofs.cascade.Cascade.of.Goals as goal
 
 pub returns : goal.returns

@@ -1,7 +1,7 @@
 use Rattle.std.proofs.Common.{◌≡◌, length, take, drop, sym, refl, ap, ◌∙◌}
 use Rattle.kit.proofs.Calls.{cipher_passes}
-use Rattle.layers.specs.Cascaded.{goal as cascaded_need}
-use Rattle.layers.proofs.Answers.{expand_due}
+use Rattle.layers.specs.Cascaded.{need as cascaded_need}
+use Rattle.layers.specs.AnswersLemmas.{expand_due}
 use Rattle.layers.proofs.cascade.Cascade.parts.Goals as goal
 
 pub returns : goal.returns

@@ -2,7 +2,7 @@ use Rattle.std.proofs.Common.{◌≡◌, ℕ, ◌-◌, get_or, take, drop, sym, 
 use Rattle.block.proofs.Parts.{bytes_from}
 use Rattle.kit.proofs.Calls.{sized_by, enciphered_fits}
 use Rattle.layers.specs.Cascaded.{bytes_of, enc, cascaded}
-use Rattle.layers.proofs.Cascades.{fits_first, fits_second, first_enc, passes, leaves}
+use Rattle.layers.specs.CascadesLemmas.{fits_first, fits_second, first_enc, passes, leaves}
 use Rattle.layers.proofs.cascade.CascadeKit.encipher.Goals as goal
 
 pub returns-in_err-encipher : goal.returns-in_err-encipher

@@ -3,8 +3,8 @@ use Rattle.std.proofs.lemmas.Result.{err_from_is_err_and}
 use Rattle.kit.specs.Calls.{told}
 use Rattle.kit.proofs.Calls.{told_ok}
 use Rattle.layers.specs.Depth.{risen, both}
-use Rattle.layers.proofs.Answers.{risen_ok, both_refused, both_refused_second}
-use Rattle.layers.proofs.Cascades.{need_short, need_long}
+use Rattle.layers.specs.AnswersLemmas.{risen_ok, both_refused, both_refused_second}
+use Rattle.layers.specs.CascadesLemmas.{need_short, need_long}
 use Rattle.layers.proofs.cascade.CascadeKit.need.Goals as goal
 
 pub returns-then-len-self : goal.returns-then-len-self

@@ -1,5 +1,5 @@
 use Rattle.std.proofs.Common.{refl}
-use Rattle.layers.proofs.Whitens.{law}
+use Rattle.layers.specs.WhitensLemmas.{law}
 use Rattle.layers.proofs.whitening.Whitening.over.Goals as goal
 
 pub returns : goal.returns

@@ -2,7 +2,7 @@ use Rattle.std.proofs.Common.{◌≡◌, ℕ, ◌-◌, get_or, sym, ◌∙◌, a
 use Rattle.block.proofs.Parts.{bytes_from}
 use Rattle.kit.proofs.Calls.{sized_by, deciphered_fits}
 use Rattle.layers.specs.Whitened.{white, inner, block_a, block_b, dec, whitened}
-use Rattle.layers.proofs.Whitens.{fits_below, whole_a, whole_b, passes, comes_out}
+use Rattle.layers.specs.WhitensLemmas.{fits_below, whole_a, whole_b, passes, comes_out}
 use Rattle.layers.proofs.whitening.WhiteningKit.decipher.Goals as goal
 
 pub returns-in_err-decipher : goal.returns-in_err-decipher

@@ -4,8 +4,8 @@ use Rattle.kit.specs.Calls.{told}
 use Rattle.kit.proofs.Calls.{told_ok}
 use Rattle.layers.specs.Depth.{risen, bounded, both}
 use Rattle.layers.specs.Whitened.{white, white_cells}
-use Rattle.layers.proofs.Answers.{risen_ok, both_refused}
-use Rattle.layers.proofs.Whitens.{need_short, need_long}
+use Rattle.layers.specs.AnswersLemmas.{risen_ok, both_refused}
+use Rattle.layers.specs.WhitensLemmas.{need_short, need_long}
 use Rattle.layers.proofs.whitening.WhiteningKit.need.Goals as goal
 
 pub returns-then-len-white : goal.returns-then-len-white

@@ -1,4 +1,4 @@
-use Rattle.std.proofs.Common.{◌≡◌, ℕ, ◌+◌, ◌<◌, get_or}
+use Rattle.std.proofs.Common.{◌≡◌, get_or}
 use Rattle.shelf.specs.Links.{step}
 use Rattle.shelf.proofs.book.ChainBook.cell_at.Given as goal
 

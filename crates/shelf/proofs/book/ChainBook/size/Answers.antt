@@ -1,4 +1,4 @@
-use Rattle.std.proofs.Common.{◌≡◌, ℕ, ◌+◌, ◌-◌, ◌<◌, ◌≤◌, not, map, set, sum, sym, refl, ap, ◌∙◌, arith}
+use Rattle.std.proofs.Common.{◌≡◌, not, map, set, sum, refl, ap, arith}
 use Rattle.std.specs.List.{range_with_len}
 use Rattle.shelf.specs.Links.{cell_at}
 use Rattle.std.proofs.lemmas.Bool.{le-ltb, eq-eqb, both_ways}

@@ -1,8 +1,7 @@
-use Rattle.std.proofs.Common.{◌≡◌, ℕ, ◌+◌, ◌-◌, ◌<◌, ◌≤◌, length, get_or, set, sym, refl, ap, ◌∙◌, arith}
+use Rattle.std.proofs.Common.{refl, ◌∙◌, arith}
 use Rattle.std.proofs.lemmas.List.Sums.{get_or-le-sum_by}
 use Rattle.shelf.proofs.Link.{ready_of}
 use Rattle.shelf.proofs.Unlink.{freed_sum, freed_within, freed_separate, freed_ends, freed_others, freed_empty}
-use Rattle.shelf.specs.declared.book.ChainBook.{ChainBook}
 use Rattle.shelf.proofs.book.ChainBook.unlink.Goals as goal
 
 pub overflow_add-self : goal.overflow_add-self

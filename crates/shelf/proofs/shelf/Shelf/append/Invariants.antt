@@ -1,4 +1,4 @@
-use Rattle.std.proofs.Common.{◌≡◌, ℕ, ◌+◌, ◌<◌, ◌≤◌, length, get_or, take}
+use Rattle.std.proofs.Common.{◌≡◌, ◌+◌, ◌≤◌, length, get_or, take}
 use Rattle.shelf.specs.Standing.{standing}
 use Rattle.shelf.specs.Calls.{Grown}
 use Rattle.shelf.proofs.shelf.Shelf.append.Given as goal

@@ -1,4 +1,4 @@
-use Rattle.std.proofs.Common.{◌≡◌, ℕ, ◌+◌, ◌<◌, ◌≤◌, get_or, take, drop}
+use Rattle.std.proofs.Common.{◌≡◌, get_or, take, drop}
 use Rattle.shelf.specs.Links.{step}
 use Rattle.shelf.specs.Standing.{places}
 use Rattle.shelf.specs.Items.{items_at}

@@ -1,6 +1,6 @@
-use Rattle.std.proofs.Common.{◌≡◌, ℕ, ◌<◌, not, length, get_or, Ok, Err, sym, refl, ap, ◌∙◌, arith}
-use Rattle.std.proofs.lemmas.Bool.{lt-ltb, le-ltb, le-leb, lt-leb, ne_eqb}
-use Rattle.refusal.specs.declared.Refusal.TheVariants.{Chain, Memory, Position}
+use Rattle.std.proofs.Common.{◌<◌, length, get_or, Ok, Err, ap, ◌∙◌, arith}
+use Rattle.std.proofs.lemmas.Bool.{le-leb, lt-leb}
+use Rattle.refusal.specs.declared.Refusal.TheVariants.{Position}
 use Rattle.std.proofs.lemmas.Result.{err_from_is_err_and}
 use Rattle.refusal.proofs.Checks.{answers_early}
 use Rattle.shelf.specs.Standing.{standing, places}

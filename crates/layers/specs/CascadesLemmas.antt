@@ -12,8 +12,8 @@ use Rattle.kit.specs.Calls.{told, unless, expand_refusal, cipher_refusal, expand
 use Rattle.kit.proofs.Calls.{cipher_passes, expand_passes, expanded_fits, told_ok}
 use Rattle.layers.specs.Depth.{here, deeper, risen, bounded, both}
 use Rattle.layers.specs.Cascaded.{bytes_of, need, schedule, enc, dec, cascaded, Cascades}
-use Rattle.layers.proofs.Joined.{same₃, two_parts}
-use Rattle.layers.proofs.Answers.{risen_ok, both_ok, split_ok, bounded_within, bounded_above}
+use Rattle.layers.specs.JoinedLemmas.{same₃, two_parts}
+use Rattle.layers.specs.AnswersLemmas.{risen_ok, both_ok, split_ok, bounded_within, bounded_above}
 
 -- a key of a cascade that is accepted
 pub record Accepted (p : ℕ) (m n : Meaning) (len cells : ℕ) : Type 0 where

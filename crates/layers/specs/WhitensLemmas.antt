@@ -13,8 +13,8 @@ use Rattle.kit.specs.Calls.{told, unless, expand_refusal, cipher_refusal, expand
 use Rattle.kit.proofs.Calls.{cipher_passes, expand_passes, expanded_fits, told_ok}
 use Rattle.layers.specs.Depth.{here, deeper, risen, bounded, both}
 use Rattle.layers.specs.Whitened.{white, white_cells, inner, block_a, block_b, need, schedule, enc, dec, whitened, Whitens}
-use Rattle.layers.proofs.Joined.{same₃, two_parts}
-use Rattle.layers.proofs.Answers.{risen_ok, both_ok, split_ok, bounded_within, bounded_above, ok_is}
+use Rattle.layers.specs.JoinedLemmas.{same₃, two_parts}
+use Rattle.layers.specs.AnswersLemmas.{risen_ok, both_ok, split_ok, bounded_within, bounded_above, ok_is}
 
 -- a whitened key that is accepted
 pub record Accepted (m : Meaning) (len n : ℕ) : Type 0 where

@@ -1,4 +1,0 @@
-pub mod Answers
-pub mod Joined
-pub mod Whitens
-pub mod Cascades
