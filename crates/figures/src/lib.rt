@@ -1,6 +1,8 @@
 // The worked figures of the two fields, of MKV and AES and of the layers, in one table.
 // Promises that each row of the table holds of the definitions that the other crates' contracts cite.
 // Rests on those definitions.
+#![tactic(auto)]
+
 ghost use Rattle.figures.specs.Figures.{figures, All};
 ghost use Rattle.figures.specs.Banks.{bank_figures};
 

@@ -1,6 +1,8 @@
 // Tests of MKV through its calls: which lengths and sizes are refused, what a refusal leaves, and worked values.
 // Promises nothing of its own.
 // Rests on crate mkv and what that rests on.
+#![tactic(auto)]
+
 #[cfg(test)]
 mod tests {
     use kit::Kit;

@@ -1,6 +1,8 @@
 // Tests of AES and of piles of layers over it: worked values, sums at their bounds, refusals with their depth.
 // Promises nothing of its own.
 // Rests on crates aes and layers and what they rest on.
+#![tactic(auto)]
+
 #[cfg(test)]
 mod tests {
     use aes::{Aes, Step};

@@ -1,6 +1,8 @@
 // The vector program: runs every vector of its data files through the proved ciphers, and compares.
 // Promises to be safe and to end; what passes a comparison is promised where it is made (compare).
 // Rests on the line format (lines), the comparisons (trial) and the clock (speed).
+#![tactic(auto)]
+
 use anyhow::anyhow;
 use compare::Fault;
 use lines::Line;
