@@ -3,8 +3,8 @@
 
 # Proves what the entry program stands on, links it, and runs it on the sample searches.
 run:
-	@mkdir -p target && rt check search > target/run.log 2>&1 || { tail -n 20 target/run.log; exit 1; }
-	@cd crates/search/data && ../../../target/bin/search $$(cat ../args)
+	@mkdir -p target && cd crates/search && rt run -- --help > ../../target/run.log 2>&1 || { tail -n 20 ../../target/run.log; exit 1; }
+	@cd crates/search/data && ../out/search $$(cat ../args)
 
 # Exactly what the gate runs.
 test:

@@ -6,7 +6,7 @@
 A list has a paragraph for each bug: a line `bug: what it does`, then `file:`, `old:` and `new:` as in a must-fail edit (the
 old text stands once in that file; \\n is the end of a line). For each bug a row is printed: refused or SURVIVED, the seconds, the
 bug, and the first error.
-The copy is checked by `rt dev`, which takes over what the bug leaves alone; it is not the verdict, so a survivor is to be tried
+The copy is checked by `rt check`, which takes over what the bug leaves alone; it is not the verdict, so a survivor is to be tried
 again as a must-fail edit. Exits with 1 if a bug survived or could not be planted.
 """
 import pathlib
@@ -52,11 +52,11 @@ def plant(copy, crate, bug):
         return "NOT PLANTED", 0, f"the old text stands {text.count(bug['old'])} times"
     path.write_text(text.replace(bug["old"], bug["new"]))
     start = time.time()
-    run = subprocess.run(["rt", "dev", crate], cwd=copy, capture_output=True, text=True)
+    run = subprocess.run(["rt", "check"], cwd=copy / "crates" / crate, capture_output=True, text=True)
     seconds = time.time() - start
     path.write_text(text)
     log = run.stdout + run.stderr
-    proved = f"rt: {crate} proved" in log or (run.returncode == 0 and "logic=not-proved" not in log)
+    proved = run.returncode == 0 and "logic=not-proved" not in log
     return ("SURVIVED" if proved else "refused"), seconds, ("" if proved else first_error(log))
 
 
@@ -65,7 +65,7 @@ def main():
     with tempfile.TemporaryDirectory() as folder:
         copy = pathlib.Path(folder) / "repo"
         shutil.copytree(ROOT, copy, ignore=shutil.ignore_patterns(".git"))
-        ready = subprocess.run(["rt", "dev", crate], cwd=copy, capture_output=True, text=True)
+        ready = subprocess.run(["rt", "check"], cwd=copy / "crates" / crate, capture_output=True, text=True)
         if ready.returncode != 0:
             sys.exit(f"{crate} is not proved as it stands:\n{(ready.stdout + ready.stderr)[-2000:]}")
         bad = 0
