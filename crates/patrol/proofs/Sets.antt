@@ -1,5 +1,5 @@
 -- A shelf's answer, told of the memory that a set has. Assumes nothing.
-use Rattle.std.proofs.Common.{◌≡◌, ℕ, ◌≤◌, List, ◌++◌, length, take, drop, Result, sym, refl, ◌∙◌, subst, arith}
+use Rattle.std.proofs.Common.{◌≡◌, ℕ, ◌≤◌, List, ◌++◌, length, take, drop, Result, sym, subst, arith}
 use lib.Seq.{take-append-le}
 use Rattle.std.proofs.lemmas.List.{take_all}
 use Rattle.refusal.specs.declared.Refusal.{Refusal}
