@@ -1,5 +1,5 @@
 -- The steps one by one: they make up the rounds, and when one is refused. Assumes nothing.
-use Rattle.std.proofs.Common.{◌≡◌, ℕ, List, length, None, sym, refl, ap, ◌∙◌}
+use Rattle.std.proofs.Common.{◌≡◌, ℕ, List, length, None, refl, ap}
 use Rattle.std.proofs.lemmas.Bool.{eq-eqb}
 use Rattle.refusal.specs.Checks.{first}
 use Rattle.kit.specs.Calls.{unless}

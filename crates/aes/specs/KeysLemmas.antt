@@ -5,14 +5,14 @@ use Rattle.std.proofs.Common.{◌∙◌, subst}
 use Rattle.std.proofs.Math.Logic.{inl, inr}
 use native.Mathlib.Omega.{arith}
 use Rattle.std.proofs.Math.Nat.{div-eq-sub-div}
-use Rattle.std.proofs.lemmas.List.{length-append, length-drop, length-take-le, take_at, take_all, take-append-le, drop_at, drop-append-le}
+use Rattle.std.proofs.lemmas.List.{length-append, length-drop, length-take-le, take_all, take-append-le, drop_at, drop-append-le}
 use Rattle.std.proofs.lemmas.Bool.{cases_lt, eq-eqb, ne_eqb, lt-ltb, le-ltb, cond-true, cond-false, and_from, and_left, and_right}
-use Rattle.block.specs.Bytes.{Bytes, Block, xor}
+use Rattle.block.specs.Bytes.{Block, xor}
 use Rattle.block.specs.Words.{word}
 use Rattle.block.proofs.Parts.{bytes_append, bytes_take, bytes_drop}
-use Rattle.block.proofs.Xor.{block_xor, commutes}
+use Rattle.block.proofs.Xor.{block_xor}
 use Rattle.block.proofs.Tables.{block_sub, length_sub}
-use Rattle.field.specs.Byte.{times_x, mul}
+use Rattle.field.specs.Byte.{times_x}
 use Rattle.field.specs.Known.{aes_poly}
 use Rattle.field.proofs.Laws.{mul_lt}
 use Rattle.field.proofs.Only.{mul_two}

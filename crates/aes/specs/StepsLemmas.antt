@@ -1,5 +1,5 @@
 -- The steps of AES keep states, and each is undone by its inverse. Assumes nothing.
-use Rattle.std.specs.Prelude.{◌≡◌, ℕ, zero, suc, ◌+◌, ◌*◌, ◌/◌, ◌%◌, ◌<◌, ◌≤◌, Bool, T, List, [], ◌∷◌, map, length, ◌==◌, nat_lt, slice_index, refl}
+use Rattle.std.specs.Prelude.{◌≡◌, ℕ, zero, suc, ◌<◌, Bool, T, List, [], ◌∷◌, map, length, ◌==◌, nat_lt, slice_index, refl}
 use Rattle.std.proofs.Common.{sym, ap, ◌∙◌, arith, eqb→eq, ltb→lt}
 use Rattle.std.specs.List.{range_with_len}
 use Rattle.std.proofs.lemmas.List.FromFn.{length-map-range_with_len, get_or-map-range_with_len, fill_by_all}
@@ -37,10 +37,10 @@ sub_bytes_redone b h = sub_back s_box_inverse s_box tables.forth b h.bytes
 
 -- ---- ShiftRows
 
-getD_byte : (b : List ℕ) (i : ℕ) → Bytes b → slice_index b i < 256
-getD_byte [] i h = omega arith
-getD_byte (x ∷ b) zero h = h.0
-getD_byte (x ∷ b) (suc i) h = getD_byte b i h.1
+get_or_byte : (b : List ℕ) (i : ℕ) → Bytes b → slice_index b i < 256
+get_or_byte [] i h = omega arith
+get_or_byte (x ∷ b) zero h = h.0
+get_or_byte (x ∷ b) (suc i) h = get_or_byte b i h.1
 
 bytes_map : (f : ℕ → ℕ) (xs : List ℕ) → ((i : ℕ) → f i < 256) → Bytes (map f xs)
 bytes_map f [] low = tt
@@ -56,7 +56,7 @@ get_d_moved from b i h = get_or-map-range_with_len (λ k. slice_index b (from k)
 
 pub block_moved : (from : ℕ → ℕ) (b : List ℕ) → Block 16 b → Block 16 (moved from b)
 unfolding moved
-block_moved from b h = record { size = length_moved from b; bytes = bytes_map (λ i. slice_index b (from i)) (range_with_len 0 16) (λ i. getD_byte b (from i) h.bytes) }
+block_moved from b h = record { size = length_moved from b; bytes = bytes_map (λ i. slice_index b (from i)) (range_with_len 0 16) (λ i. get_or_byte b (from i) h.bytes) }
 
 -- the places that g names are those that f took from: one test over all of them
 order_test : (ℕ → ℕ) → (ℕ → ℕ) → ℕ → Bool

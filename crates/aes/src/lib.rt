@@ -1,6 +1,8 @@
 // The block cipher AES as a kit: blocks of 16 bytes, keys of 16, 24 or 32.
 // Promises the standard's cipher as its meaning, refusals included, and every step of a round by itself.
 // Rests on the interface (kit), the rounds (round) and the key expansion (schedule).
+#![tactic(auto)]
+
 ghost use Rattle.std.specs.Prelude.{◌≡◌, ◌+◌, ◌*◌, length, IfOk, Some};
 ghost use Rattle.refusal.specs.Checks.{first, refusal};
 ghost use Rattle.kit.specs.Calls.{expand_checks, unless};

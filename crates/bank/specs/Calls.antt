@@ -1,5 +1,5 @@
 -- What each call of a bank answers and leaves: its checks in order, and what holds once it is accepted. Assumes nothing.
-use Rattle.std.specs.Prelude.{◌≡◌, ℕ, zero, suc, ◌+◌, ◌<◌, Bool, true, not, ◌||◌, ltb, List, [], ◌∷◌, ◌++◌, length, Some, None, Ok, Err, Option, Result, ◌==◌, nat_lt}
+use Rattle.std.specs.Prelude.{◌≡◌, ℕ, zero, suc, ◌+◌, ◌<◌, Bool, true, not, ◌||◌, List, [], ◌∷◌, ◌++◌, length, Some, None, Ok, Err, Option, Result, ◌==◌, nat_lt}
 use Rattle.refusal.specs.Checks.{Answers}
 use Rattle.refusal.specs.declared.KeyFault.{KeyFault}
 use Rattle.refusal.specs.declared.Refusal.{Refusal}
@@ -47,7 +47,7 @@ need m key = elim (m.need (length key)) [ Ok n ↦ n | Err fault ↦ 0 ]
 
 -- the checks that follow it but for the one for cells, at a bank of `size` cells with `open` links
 abbrev pub start_checks : Meaning → (size «open» : ℕ) → Ask → List (Bool × Refusal)
-start_checks m size «open» a = (not (length a.start == m.width), Start) ∷ (not (a.memory == size), Memory) ∷ (ltb 7 «open», Links) ∷ []
+start_checks m size «open» a = (not (length a.start == m.width), Start) ∷ (not (a.memory == size), Memory) ∷ (nat_lt 7 «open», Links) ∷ []
 
 -- the checks that come before the one for cells
 abbrev pub early_checks : Meaning → (size «open» : ℕ) → Ask → List (Bool × Refusal)

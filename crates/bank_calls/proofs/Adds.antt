@@ -1,12 +1,12 @@
 -- How each call adds itself to a past. Assumes nothing.
-use Rattle.std.proofs.Common.{◌≡◌, ℕ, Bool, List, [], ◌∷◌, ◌++◌, length, None, Ok, Err, Option, Result, sym, refl, ap, ◌∙◌, subst}
+use Rattle.std.proofs.Common.{◌≡◌, ℕ, Bool, List, ◌++◌, length, None, Ok, Err, Option, Result, sym, refl, ap, ◌∙◌, subst}
 use Rattle.refusal.specs.Checks.{first}
 use Rattle.refusal.specs.declared.Refusal.{Refusal}
 use Rattle.block.specs.Bytes.{Bytes}
 use Rattle.kit.specs.Meaning.{Meaning}
 use Rattle.shelf.specs.Standing.{Standing, standing}
-use Rattle.shelf.specs.Past.{Shown, its_own, another}
-use Rattle.bank.specs.Books.{Books, Running, links}
+use Rattle.shelf.specs.Past.{its_own, another}
+use Rattle.bank.specs.Books.{Running, links}
 use Rattle.bank.specs.Calls.{Ask, Buffers, link_checks, put_tail, end_tail, open_checks, Opens, Puts, Ends, Strikes}
 use Rattle.bank.specs.Past.{Event, opens, puts, ends, strikes, Ran, calls}
 use Rattle.bank.proofs.Runs.{size_ran}

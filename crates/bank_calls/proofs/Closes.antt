@@ -1,10 +1,10 @@
 -- A link that is closed, at its end or by a strike. Assumes nothing.
-use Rattle.std.proofs.Common.{◌≡◌, ℕ, ◌+◌, ◌<◌, ◌≤◌, Bool, true, false, not, eqb, ltb, List, [], ◌∷◌, length, take, set, Some, None, Ok, Err, MatchBool, Result, sym, refl, ap, ◌∙◌, subst, ap₂, arith, MatchResult}
+use Rattle.std.proofs.Common.{◌≡◌, ℕ, ◌<◌, Bool, true, false, not, eqb, ltb, List, [], ◌∷◌, length, Some, None, Ok, Err, MatchBool, Result, sym, refl, ap, ◌∙◌, subst, arith, MatchResult}
 use Rattle.std.proofs.lemmas.Bool.{le-ltb, both_ways, cond-false}
 use Rattle.refusal.specs.Checks.{first}
 use Rattle.refusal.specs.declared.Refusal.{Refusal}
 use Rattle.refusal.specs.declared.Refusal.TheVariants.{Scratch, Chain, Closed, Memory}
-use Rattle.shelf.specs.Standing.{Standing, standing, free}
+use Rattle.shelf.specs.Standing.{Standing, standing}
 use Rattle.shelf.specs.Items.{list, items_at}
 use Rattle.shelf.specs.Keys.{joined}
 use Rattle.shelf.specs.Calls.{Emptied, Drop}
@@ -13,8 +13,7 @@ use Rattle.kit.specs.Meaning.{Meaning}
 use Rattle.link.specs.declared.Link.{Link}
 use Rattle.link.specs.Record.{closed}
 use Rattle.link.specs.Calls as one
-use Rattle.bank.specs.Books.{Books, Running}
-use Rattle.bank.specs.Calls.{Buffers, Closes, Struck, Strikes, Ended, Ends, last_bytes, end_tail, end_checks}
+use Rattle.bank.specs.Calls.{Buffers, Closes, Struck, Strikes, Ends, last_bytes, end_tail, end_checks}
 use Rattle.bank_calls.specs.Table.{at}
 use Rattle.bank_calls.specs.Seen.{running, seen, books}
 use Rattle.bank_calls.specs.Calls.{gave, lengths_with, Written, Kept, Shuts, StrikesOne}

@@ -1,5 +1,5 @@
 -- What the calls promise of the scratch, and what a refusal leaves. Assumes nothing.
-use Rattle.std.proofs.Common.{◌≡◌, ℕ, eqb, List, length, replicate, Ok, Err, Result, sym, refl, ap, ◌∙◌, subst, arith, MatchResult}
+use Rattle.std.proofs.Common.{◌≡◌, ℕ, eqb, List, length, replicate, Ok, Err, Result, sym, refl, ap, ◌∙◌, arith, MatchResult}
 use Rattle.std.proofs.lemmas.Bool.{eq-eqb, ne_eqb, cond-true, cond-false}
 use Rattle.refusal.specs.declared.Refusal.{Refusal}
 use Rattle.bank_calls.specs.Calls.{gave, Wiped, Kept}

@@ -1,8 +1,7 @@
 -- What a bank keeps of its records and chains, after one record and one chain have changed. Assumes nothing.
-use Rattle.std.proofs.Common.{◌≡◌, ℕ, ◌<◌, ◌≤◌, true, false, List, [], length, set, sym, refl, ap, ◌∙◌, subst, arith, length-set}
+use Rattle.std.proofs.Common.{◌≡◌, ℕ, ◌<◌, ◌≤◌, true, false, List, [], length, set, ap, ◌∙◌, arith, length-set}
 use Rattle.modes.specs.Machine.{limit}
 use Rattle.shelf.specs.Standing.{Standing, standing}
-use Rattle.shelf.specs.declared.shelf.Shelf.{Shelf}
 use Rattle.link.specs.declared.Link.{Link}
 use Rattle.bank_calls.specs.Table.{at}
 use Rattle.bank_calls.specs.declared.state.Bank.{Bank}
@@ -19,14 +18,27 @@ pub record Sits (s : Standing) (i : ℕ) (l : Link) : Type 0 where
 
 -- as a bank keeps it
 abbrev pub All : List Link → Standing → Type 0
-All links s =
-    (length links ≡ 8) × (((i : ℕ) → (at links i).open ≡ true → 1 ≤ (at links i).width) × (((i : ℕ) → (at links i).open ≡ true → (at links i).width ≤ 32)
-    × (((i : ℕ) → (at links i).open ≡ true → (at links i).count < limit (at links i).mode (at links i).direction (at links i).width)
-    × (((i : ℕ) → (at links i).open ≡ true → 1 ≤ s.size) × (((i : ℕ) → (at links i).open ≡ true → length (s.chain i) ≤ 96)
-    × (((i : ℕ) → (i < 8) × ((at links i).open ≡ false) → s.chain i ≡ []) × Unit {0}))))))
+All links s = record {
+  eight : length links ≡ 8;
+  some : (i : ℕ) → (at links i).open ≡ true → 1 ≤ (at links i).width;
+  thin : (i : ℕ) → (at links i).open ≡ true → (at links i).width ≤ 32;
+  begun : (i : ℕ) → (at links i).open ≡ true → (at links i).count < limit (at links i).mode (at links i).direction (at links i).width;
+  sized : (i : ℕ) → (at links i).open ≡ true → 1 ≤ s.size;
+  few : (i : ℕ) → (at links i).open ≡ true → length (s.chain i) ≤ 96;
+  shut : (i : ℕ) → (i < 8) × ((at links i).open ≡ false) → s.chain i ≡ [];
+}
 
 pub every : (links : List Link) (s : Standing) → length links ≡ 8 → ((i : ℕ) → Sits s i (at links i)) → All links s
-every links s eight sits = (eight, ((λ i. (sits i).some), ((λ i. (sits i).thin), ((λ i. (sits i).begun), ((λ i. (sits i).sized), ((λ i. (sits i).few), ((λ i. (sits i).shut), tt)))))))
+every links s eight sits =
+    record {
+      eight = eight;
+      some = λ i. (sits i).some;
+      thin = λ i. (sits i).thin;
+      begun = λ i. (sits i).begun;
+      sized = λ i. (sits i).sized;
+      few = λ i. (sits i).few;
+      shut = λ i. (sits i).shut;
+    }
 
 module _ {K : Type 0} (b : Bank K) where
   pub sits : (i : ℕ) → Sits (standing b.shelf.book) i (at b.links i)

@@ -1,18 +1,16 @@
 -- An open link's schedule in the scratch. Assumes nothing.
-use Rattle.std.proofs.Common.{◌≡◌, ℕ, ◌-◌, ◌*◌, ◌<◌, ◌≤◌, Bool, true, false, cond, not, eqb, ltb, List, [], ◌∷◌, ◌++◌, length, take, drop, Some, None, Ok, Err, Result, sym, refl, ap, ◌∙◌, subst, ap₂, arith, length-append, length-drop}
+use Rattle.std.proofs.Common.{◌≡◌, ℕ, ◌*◌, ◌<◌, ◌≤◌, Bool, true, false, not, eqb, ltb, List, [], ◌∷◌, length, take, drop, None, Ok, Err, Result, sym, ap, ◌∙◌, subst, ap₂, arith, length-append, length-drop}
 use lib.Seq.{take-append_seam}
 use Rattle.std.proofs.lemmas.Bool.{le-ltb, not-false}
 use Rattle.refusal.specs.Checks.{first, Answers}
 use Rattle.refusal.specs.declared.Refusal.{Refusal}
 use Rattle.refusal.specs.declared.Refusal.TheVariants.{Chain, Closed, Memory, Output}
 use Rattle.refusal.proofs.Checks.{none_due}
-use Rattle.shelf.specs.Standing.{Standing, standing}
+use Rattle.shelf.specs.Standing.{standing}
 use Rattle.shelf.specs.Items.{list}
 use Rattle.shelf.specs.Keys.{joined, GatherBytes}
 use Rattle.kit.specs.Meaning.{Meaning}
 use Rattle.link.specs.declared.Link.{Link}
-use Rattle.link.specs.Record.{Fits}
-use Rattle.link.specs.Record as record_of
 use Rattle.link.specs.Calls as one
 use Rattle.bank_calls.specs.Table.{at}
 use Rattle.bank_calls.specs.Calls.{load_checks}

@@ -1,6 +1,6 @@
 -- A link that is opened. Assumes nothing.
-use Rattle.std.proofs.Common.{◌≡◌, ℕ, ◌+◌, ◌*◌, ◌<◌, ◌≤◌, Bool, true, false, cond, not, eqb, ltb, List, [], ◌∷◌, ◌++◌, length, set, replicate, Some, None, Ok, Err, Result, sym, refl, ap, ◌∙◌, subst, ap₂, arith, MatchResult}
-use Rattle.std.proofs.lemmas.Bool.{eq-eqb, ne_eqb, eqb-true, le-ltb, ltb-false, not-false, both_ways, cond-true, cond-false}
+use Rattle.std.proofs.Common.{◌≡◌, ℕ, ◌*◌, ◌<◌, ◌≤◌, true, false, not, eqb, ltb, List, [], ◌∷◌, ◌++◌, length, set, Some, None, Ok, Err, Result, sym, refl, ap, ◌∙◌, subst, ap₂, arith}
+use Rattle.std.proofs.lemmas.Bool.{eq-eqb, ne_eqb, eqb-true, le-ltb, ltb-false, not-false, both_ways, cond-false}
 use Rattle.refusal.specs.Checks.{first}
 use Rattle.refusal.specs.declared.KeyFault.{KeyFault}
 use Rattle.refusal.specs.declared.Refusal.{Refusal}
@@ -16,10 +16,10 @@ use Rattle.shelf.proofs.KeyCells.{length_key_cells, joined_key_cells}
 use Rattle.modes.specs.Machine.{opened}
 use Rattle.link.specs.declared.Link.{Link}
 use Rattle.link.specs.Record.{view, begun, Fits}
-use Rattle.bank.specs.Books.{Books, Running, links}
-use Rattle.bank.specs.Calls.{Ask, mode_of, direction_of, unknown, need, key_checks, start_checks, open_checks, fresh, Opened, Opens}
+use Rattle.bank.specs.Books.{links}
+use Rattle.bank.specs.Calls.{Ask, mode_of, direction_of, unknown, need, key_checks, start_checks, open_checks, Opened, Opens}
 use Rattle.bank_calls.specs.Table.{at}
-use Rattle.bank_calls.specs.Seen.{running, seen, books}
+use Rattle.bank_calls.specs.Seen.{seen, books}
 use Rattle.bank_calls.specs.Calls.{room_checks, Kept, Takes}
 use Rattle.bank_calls.specs.declared.state.Bank.{Bank}
 use Rattle.bank_calls.proofs.Tables.{at_same, at_other, open_below}

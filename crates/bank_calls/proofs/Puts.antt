@@ -1,5 +1,5 @@
 -- A piece that a link of the bank takes. Assumes nothing.
-use Rattle.std.proofs.Common.{◌≡◌, ℕ, ◌<◌, ◌≤◌, Bool, true, false, not, eqb, List, [], ◌∷◌, ◌++◌, length, take, drop, set, Some, None, Ok, Err, Result, sym, refl, ap, ◌∙◌, subst, ap₂, arith, length-append, MatchResult}
+use Rattle.std.proofs.Common.{◌≡◌, ℕ, ◌≤◌, true, not, eqb, List, [], ◌∷◌, length, take, drop, set, Some, None, Ok, Err, Result, sym, refl, ap, ◌∙◌, subst, ap₂, arith, length-append, MatchResult}
 use lib.Seq.{take-append_seam, drop-append_seam}
 use Rattle.refusal.specs.Checks.{first}
 use Rattle.refusal.specs.declared.Refusal.{Refusal}
@@ -14,14 +14,14 @@ use Rattle.link.specs.declared.Link.{Link}
 use Rattle.link.specs.Record.{view}
 use Rattle.link.specs.Record as record_of
 use Rattle.link.specs.Calls as one
-use Rattle.bank.specs.Books.{Books, Running}
-use Rattle.bank.specs.Calls.{Buffers, fed_link, given_link, put_tail, put_checks, Fed, Puts}
+use Rattle.bank.specs.Books.{Books}
+use Rattle.bank.specs.Calls.{Buffers, given_link, put_tail, put_checks, Fed, Puts}
 use Rattle.bank_calls.specs.Table.{at}
 use Rattle.bank_calls.specs.Seen.{running, seen, books_of, books}
 use Rattle.bank_calls.specs.Calls.{gave, lengths_with, Written, Kept, Steps}
 use Rattle.bank_calls.specs.declared.state.Bank.{Bank}
 use Rattle.bank_calls.proofs.Tables.{at_same, at_other, open_below, set_again}
-use Rattle.bank_calls.proofs.Seen.{seen_open, kept_same, books_alike}
+use Rattle.bank_calls.proofs.Seen.{seen_open, kept_same}
 use Rattle.bank_calls.proofs.Checks.{early_told, later_told, scratch_told}
 
 -- the front of an output that begins with g

@@ -1,18 +1,18 @@
 -- A bank that is given its cells. Assumes nothing.
-use Rattle.std.proofs.Common.{◌≡◌, ℕ, ◌<◌, ◌≤◌, Bool, true, false, not, eqb, ltb, ◌⊎◌, List, [], ◌∷◌, length, is_err, Some, None, Ok, Err, Result, sym, refl, ap, ◌∙◌, inl, inr, arith}
-use Rattle.std.proofs.lemmas.Bool.{eqb-true, not-false, both_ways, cases_Bool}
+use Rattle.std.proofs.Common.{◌≡◌, ℕ, true, false, not, eqb, ltb, List, [], ◌∷◌, length, is_err, None, Ok, Err, Result, refl, ap, ◌∙◌, inl, inr, arith}
+use Rattle.std.proofs.lemmas.Bool.{eqb-true, not-false, cases_Bool}
 use Rattle.refusal.specs.Checks.{first}
 use Rattle.refusal.specs.declared.Refusal.{Refusal}
 use Rattle.refusal.specs.declared.Refusal.TheVariants.{Size}
 use Rattle.refusal.proofs.Checks.{none_due}
-use Rattle.shelf.specs.Standing.{Standing, standing, total, free}
+use Rattle.shelf.specs.Standing.{Standing, standing, free}
 use Rattle.shelf.specs.Calls.{size_checks, Empty, Sizing}
 use Rattle.shelf.proofs.Totals.{total_same, total_none}
 use Rattle.kit.specs.Meaning.{Meaning}
 use Rattle.bank.specs.Past.{New, Ran, starts}
 use Rattle.bank_calls.specs.Table.{at}
 use Rattle.bank_calls.specs.Seen.{books}
-use Rattle.bank_calls.specs.Calls.{Kept, Sizes}
+use Rattle.bank_calls.specs.Calls.{Sizes}
 use Rattle.bank_calls.specs.declared.state.Bank.{Bank}
 use Rattle.bank_calls.proofs.Seen.{seen_shut}
 

@@ -3,13 +3,12 @@ use Rattle.std.specs.Prelude.{◌≡◌, ℕ, ◌≤◌, Bool, cond, not, List, 
 use Rattle.refusal.specs.Checks.{Answers}
 use Rattle.refusal.specs.declared.Refusal.{Refusal}
 use Rattle.refusal.specs.declared.Refusal.TheVariants.{Closed, Memory, Links, Cells}
-use Rattle.shelf.specs.Standing.{Standing, standing, free}
+use Rattle.shelf.specs.Standing.{standing, free}
 use Rattle.shelf.specs.Calls.{size_checks, Grown, Emptied}
 use Rattle.shelf.specs.Keys.{key_cells}
 use Rattle.kit.specs.Meaning.{Meaning}
-use Rattle.link.specs.declared.Link.{Link}
 use Rattle.link.specs.Record.{closed, begun}
-use Rattle.bank.specs.Books.{Books, links}
+use Rattle.bank.specs.Books.{links}
 use Rattle.bank.specs.Calls.{Ask, Buffers, mode_of, direction_of}
 use Rattle.bank.specs.Past.{New}
 use Rattle.bank_calls.specs.Table.{at}

@@ -41,7 +41,7 @@ impl<K: Kit> Bank<K> {
         ensures outcome { Sizes self.old n result self.new }
         ensures kit { self.new.kit ≡ self.old.kit }
         ensures links { self.new.links ≡ self.old.links }
-        ensures begins { result ≡ Ok tt → (own : List (List ℕ)) → length own ≡ n → Ran (meaning self.new.kit) n [] (books self.new own) }
+        ensures begins { result ≡ Ok tt → (own : List (List ℕ)) → length own ≡ n → Ran (K.Kit.meaning self.new.kit) n [] (books self.new own) }
         ensures law { Law }
     {
         self.shelf.size(n)
@@ -64,10 +64,10 @@ impl<K: Kit> Bank<K> {
         key: &[u8],
         start: &[u8],
     ) -> Result<Ticket, Refusal>
-        ensures outcome { Opens (meaning self.old.kit) (books self.old memory.old) (asked scratch.old memory.old mode direction key.now start.now) (number result) (books self.new memory.new) }
+        ensures outcome { Opens (K.Kit.meaning self.old.kit) (books self.old memory.old) (asked scratch.old memory.old mode direction key.now start.now) (number result) (books self.new memory.new) }
         ensures scratch { Wiped scratch.old scratch.new }
-        ensures link { MatchResult result (λ t. Takes (meaning self.old.kit) self.old memory.old (asked scratch.old memory.old mode direction key.now start.now) t.link self.new memory.new) (λ _. Kept self.old self.new × (memory.new ≡ memory.old)) }
-        ensures past { Adds (meaning self.old.kit) self.old memory.old (opens (asked scratch.old memory.old mode direction key.now start.now) (number result)) self.new memory.new }
+        ensures link { MatchResult result (λ t. Takes (K.Kit.meaning self.old.kit) self.old memory.old (asked scratch.old memory.old mode direction key.now start.now) t.link self.new memory.new) (λ _. Kept self.old self.new × (memory.new ≡ memory.old)) }
+        ensures past { Adds (K.Kit.meaning self.old.kit) self.old memory.old (opens (asked scratch.old memory.old mode direction key.now start.now) (number result)) self.new memory.new }
     {
         if scratch.len() != SCRATCH {
             return Err(Refusal::Scratch);
@@ -86,11 +86,11 @@ impl<K: Kit> Bank<K> {
         piece: &[u8],
         out: &mut [u8],
     ) -> Result<usize, Refusal>
-        ensures outcome { Puts (meaning self.old.kit) (books self.old memory.now) (lengths scratch.old memory.now out.old) link piece.now (gave result out.new) (books self.new memory.now) }
+        ensures outcome { Puts (K.Kit.meaning self.old.kit) (books self.old memory.now) (lengths scratch.old memory.now out.old) link piece.now (gave result out.new) (books self.new memory.now) }
         ensures scratch { Wiped scratch.old scratch.new }
         ensures output { Written out.old result out.new }
         ensures link { MatchResult result (λ _. Steps self.old link self.new) (λ _. Kept self.old self.new) }
-        ensures past { Adds (meaning self.old.kit) self.old memory.now (puts link piece.now (gave result out.new)) self.new memory.now }
+        ensures past { Adds (K.Kit.meaning self.old.kit) self.old memory.now (puts link piece.now (gave result out.new)) self.new memory.now }
     {
         if scratch.len() != SCRATCH {
             return Err(Refusal::Scratch);
@@ -108,11 +108,11 @@ impl<K: Kit> Bank<K> {
         ticket: Ticket,
         out: &mut [u8],
     ) -> Result<usize, Returned>
-        ensures outcome { Ends (meaning self.old.kit) (books self.old memory.now) (lengths scratch.old memory.now out.old) ticket.link (gave (reason result) out.new) (books self.new memory.now) }
+        ensures outcome { Ends (K.Kit.meaning self.old.kit) (books self.old memory.now) (lengths scratch.old memory.now out.old) ticket.link (gave (reason result) out.new) (books self.new memory.now) }
         ensures scratch { Wiped scratch.old scratch.new }
         ensures output { Written out.old (reason result) out.new }
         ensures link { MatchResult result (λ _. Shuts self.old ticket.link self.new) (λ e. Kept self.old self.new × (e.ticket ≡ ticket)) }
-        ensures past { Adds (meaning self.old.kit) self.old memory.now (ends ticket.link (gave (reason result) out.new)) self.new memory.now }
+        ensures past { Adds (K.Kit.meaning self.old.kit) self.old memory.now (ends ticket.link (gave (reason result) out.new)) self.new memory.now }
     {
         if scratch.len() != SCRATCH {
             return Err(Returned {
@@ -134,7 +134,7 @@ impl<K: Kit> Bank<K> {
     pub fn strike(&mut self, ticket: Ticket)
         ensures outcome { (memory : List (List ℕ)) → Strikes (books self.old memory) ticket.link (books self.new memory) }
         ensures link { StrikesOne self.old ticket.link self.new }
-        ensures past { AddsUnshown (meaning self.old.kit) self.old (strikes ticket.link) self.new }
+        ensures past { AddsUnshown (K.Kit.meaning self.old.kit) self.old (strikes ticket.link) self.new }
     {
         let Ticket { link } = ticket;
         let link = link as usize;

@@ -117,8 +117,8 @@ impl<K: Kit> Bank<K> {
         start: &[u8],
     ) -> Result<u8, Refusal>
         requires { length scratch.old ≡ 1536 }
-        ensures outcome { Opens (meaning self.old.kit) (books self.old memory.old) (asked_with 1536 memory.old mode direction key.now start.now) result (books self.new memory.new) }
-        ensures link { MatchResult result (λ i. Takes (meaning self.old.kit) self.old memory.old (asked_with 1536 memory.old mode direction key.now start.now) i self.new memory.new) (λ _. Kept self.old self.new × (memory.new ≡ memory.old)) }
+        ensures outcome { Opens (K.Kit.meaning self.old.kit) (books self.old memory.old) (asked_with 1536 memory.old mode direction key.now start.now) result (books self.new memory.new) }
+        ensures link { MatchResult result (λ i. Takes (K.Kit.meaning self.old.kit) self.old memory.old (asked_with 1536 memory.old mode direction key.now start.now) i self.new memory.new) (λ _. Kept self.old self.new × (memory.new ≡ memory.old)) }
     {
         let (mode, direction) = named(mode, direction)?;
         let need = self.kit.need(key.len())?;
@@ -145,7 +145,7 @@ impl<K: Kit> Bank<K> {
         out: &mut [u8],
     ) -> Result<usize, Refusal>
         requires { length scratch.old ≡ 1536 }
-        ensures outcome { Puts (meaning self.old.kit) (books self.old memory.now) (lengths_with 1536 memory.now out.old) link piece.now (gave result out.new) (books self.new memory.now) }
+        ensures outcome { Puts (K.Kit.meaning self.old.kit) (books self.old memory.now) (lengths_with 1536 memory.now out.old) link piece.now (gave result out.new) (books self.new memory.now) }
         ensures output { Written out.old result out.new }
         ensures link { MatchResult result (λ _. Steps self.old link self.new) (λ _. Kept self.old self.new) }
     {
@@ -162,7 +162,7 @@ impl<K: Kit> Bank<K> {
         out: &mut [u8],
     ) -> Result<usize, Refusal>
         requires { length scratch.old ≡ 1536 }
-        ensures outcome { Ends (meaning self.old.kit) (books self.old memory.now) (lengths_with 1536 memory.now out.old) link (gave result out.new) (books self.new memory.now) }
+        ensures outcome { Ends (K.Kit.meaning self.old.kit) (books self.old memory.now) (lengths_with 1536 memory.now out.old) link (gave result out.new) (books self.new memory.now) }
         ensures output { Written out.old result out.new }
         ensures link { MatchResult result (λ _. Shuts self.old link self.new) (λ _. Kept self.old self.new) }
     {

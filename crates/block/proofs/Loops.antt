@@ -44,13 +44,13 @@ length_fitted zero xs = refl
 length_fitted (suc n) [] = ap suc (length_fitted n [])
 length_fitted (suc n) (x ∷ xs) = ap suc (length_fitted n xs)
 
-pub getD_fitted : (n : ℕ) (xs : List ℕ) (i : ℕ) → i < n → get_or (fitted n xs) i 0 ≡ get_or xs i 0
+pub get_or_fitted : (n : ℕ) (xs : List ℕ) (i : ℕ) → i < n → get_or (fitted n xs) i 0 ≡ get_or xs i 0
 unfolding fitted
-getD_fitted zero xs i h = absurd (not-suc-le-zero h)
-getD_fitted (suc n) [] zero h = refl
-getD_fitted (suc n) [] (suc i) h = getD_fitted n [] i (le_of_suc-le-suc h)
-getD_fitted (suc n) (x ∷ xs) zero h = refl
-getD_fitted (suc n) (x ∷ xs) (suc i) h = getD_fitted n xs i (le_of_suc-le-suc h)
+get_or_fitted zero xs i h = absurd (not-suc-le-zero h)
+get_or_fitted (suc n) [] zero h = refl
+get_or_fitted (suc n) [] (suc i) h = get_or_fitted n [] i (le_of_suc-le-suc h)
+get_or_fitted (suc n) (x ∷ xs) zero h = refl
+get_or_fitted (suc n) (x ∷ xs) (suc i) h = get_or_fitted n xs i (le_of_suc-le-suc h)
 
 pub fitted_whole : (n : ℕ) (xs : List ℕ) → length xs ≡ n → fitted n xs ≡ xs
 unfolding fitted

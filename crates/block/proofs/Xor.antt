@@ -42,12 +42,12 @@ length_xor [] (y ∷ ys) e = absurd (omega arith)
 length_xor (x ∷ xs) [] e = refl
 length_xor (x ∷ xs) (y ∷ ys) e = ap suc (length_xor xs ys (omega arith))
 
-pub getD_xor : (xs ys : List ℕ) (i : ℕ) → get_or (xor xs ys) i 0 ≡ bit_xor (get_or xs i 0) (get_or ys i 0)
+pub get_or_xor : (xs ys : List ℕ) (i : ℕ) → get_or (xor xs ys) i 0 ≡ bit_xor (get_or xs i 0) (get_or ys i 0)
 unfolding xor
-getD_xor [] ys i = refl
-getD_xor (x ∷ xs) [] i = sym (xor_zero_r (get_or (x ∷ xs) i 0))
-getD_xor (x ∷ xs) (y ∷ ys) zero = refl
-getD_xor (x ∷ xs) (y ∷ ys) (suc i) = getD_xor xs ys i
+get_or_xor [] ys i = refl
+get_or_xor (x ∷ xs) [] i = sym (xor_zero_r (get_or (x ∷ xs) i 0))
+get_or_xor (x ∷ xs) (y ∷ ys) zero = refl
+get_or_xor (x ∷ xs) (y ∷ ys) (suc i) = get_or_xor xs ys i
 
 pub bytes_xor : (xs ys : List ℕ) → Bytes xs → Bytes ys → Bytes (xor xs ys)
 unfolding xor
@@ -66,8 +66,8 @@ pub xor_whole : (x y : List ℕ) → length x ≡ length y → take (length x) (
 xor_whole x y e = let l = length_xor x y e in take_all (length x) (xor x y) (omega arith)
 
 -- what it leaves in any case
-pub getD_cut : (x y : List ℕ) (i : ℕ) → i < length x → get_or (take (length x) (xor x y)) i 0 ≡ bit_xor (get_or x i 0) (get_or y i 0)
-getD_cut x y i h = get_or-take (length x) (xor x y) i 0 h ∙ getD_xor x y i
+pub get_or_cut : (x y : List ℕ) (i : ℕ) → i < length x → get_or (take (length x) (xor x y)) i 0 ≡ bit_xor (get_or x i 0) (get_or y i 0)
+get_or_cut x y i h = get_or-take (length x) (xor x y) i 0 h ∙ get_or_xor x y i
 
 pub length_cut : (x y : List ℕ) → length (take (length x) (xor x y)) ≡ length x
 unfolding xor

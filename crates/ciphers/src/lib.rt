@@ -1,6 +1,8 @@
 // The ciphers that a set can name: plain ones, cascades of two, and these whitened once or twice.
 // Promises of each the cells that a key needs, or the refusal of its length with depth and length.
 // Rests on the kits `aes` and `mkv` and on the layers over them.
+#![tactic(auto)]
+
 ghost use Rattle.std.specs.Prelude.{◌≡◌};
 ghost use Rattle.kit.specs.Calls.{told};
 ghost use Rattle.layers.specs.Cascaded.{cascaded};

@@ -112,6 +112,6 @@ pub length_apply : (p : ℕ) (m : List (List ℕ)) (v : List ℕ) → length (ap
 unfolding apply
 length_apply p m v = length-map m (λ row. dot p row v)
 
-pub getD_apply : (p : ℕ) (m : List (List ℕ)) (v : List ℕ) (i : ℕ) (d : List ℕ) → i < length m → get_or (apply p m v) i 0 ≡ dot p (get_or m i d) v
+pub get_or_apply : (p : ℕ) (m : List (List ℕ)) (v : List ℕ) (i : ℕ) (d : List ℕ) → i < length m → get_or (apply p m v) i 0 ≡ dot p (get_or m i d) v
 unfolding apply
-getD_apply p m v i d h = get_or-map (λ row. dot p row v) m i d 0 h
+get_or_apply p m v i d h = get_or-map (λ row. dot p row v) m i d 0 h

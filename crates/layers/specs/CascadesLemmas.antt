@@ -1,5 +1,5 @@
 -- The cascade of two sound kits is sound, and means what its law says. Assumes nothing.
-use Rattle.std.proofs.Common.{◌≡◌, ℕ, ◌+◌, ◌-◌, ◌*◌, ◌<◌, ◌≤◌, cond, ltb, ◌⊎◌, List, ◌++◌, length, take, drop, None, Ok, Err, Result, sym, refl, ap, ◌∙◌, subst, ap₂, inl, inr, arith}
+use Rattle.std.proofs.Common.{◌≡◌, ℕ, ◌+◌, ◌-◌, ◌*◌, ◌<◌, ◌≤◌, ◌⊎◌, List, ◌++◌, length, take, drop, None, Ok, Err, Result, sym, refl, ap, ◌∙◌, subst, ap₂, inl, inr, arith}
 use borrow.Rule.Slice.PartMut.{put_mid, post_of}
 use Rattle.std.proofs.lemmas.List.{length-append, length-take-le, length-drop, take_at, drop_at, take_rest}
 use Rattle.std.proofs.lemmas.Bool.{lt-ltb, le-ltb}
@@ -10,7 +10,7 @@ use Rattle.block.proofs.Parts.{bytes_append, bytes_take, bytes_drop}
 use Rattle.kit.specs.Meaning.{Meaning, Sized, Sound}
 use Rattle.kit.specs.Calls.{told, unless, expand_refusal, cipher_refusal, expanded}
 use Rattle.kit.proofs.Calls.{cipher_passes, expand_passes, expanded_fits, told_ok}
-use Rattle.layers.specs.Depth.{here, deeper, risen, bounded, both}
+use Rattle.layers.specs.Depth.{here, risen, both}
 use Rattle.layers.specs.Cascaded.{bytes_of, need, schedule, enc, dec, cascaded, Cascades}
 use Rattle.layers.specs.JoinedLemmas.{same₃, two_parts}
 use Rattle.layers.specs.AnswersLemmas.{risen_ok, both_ok, split_ok, bounded_within, bounded_above}

@@ -1,5 +1,5 @@
 -- Whitening over a sound kit is sound, and means what its law says. Assumes nothing.
-use Rattle.std.proofs.Common.{◌≡◌, ℕ, ◌+◌, ◌-◌, ◌*◌, ◌/◌, ◌<◌, ◌≤◌, cond, ltb, ◌⊎◌, List, ◌++◌, length, take, drop, None, Ok, Err, Result, sym, refl, ap, ◌∙◌, subst, ap₂, inl, inr, arith}
+use Rattle.std.proofs.Common.{◌≡◌, ℕ, ◌+◌, ◌-◌, ◌*◌, ◌<◌, ◌≤◌, ◌⊎◌, List, ◌++◌, length, take, drop, None, Ok, Err, Result, sym, refl, ap, ◌∙◌, ap₂, inl, inr, arith}
 use borrow.Rule.Slice.PartMut.{put_mid, post_of}
 use Rattle.std.proofs.lemmas.List.{length-append, length-take-le, length-drop, take_at, drop_at, take_rest}
 use Rattle.std.proofs.lemmas.Bool.{lt-ltb, le-ltb}
@@ -11,7 +11,7 @@ use Rattle.refusal.specs.declared.Refusal.{Refusal}
 use Rattle.kit.specs.Meaning.{Meaning, Sized, Sound}
 use Rattle.kit.specs.Calls.{told, unless, expand_refusal, cipher_refusal, expanded}
 use Rattle.kit.proofs.Calls.{cipher_passes, expand_passes, expanded_fits, told_ok}
-use Rattle.layers.specs.Depth.{here, deeper, risen, bounded, both}
+use Rattle.layers.specs.Depth.{here, risen, both}
 use Rattle.layers.specs.Whitened.{white, white_cells, inner, block_a, block_b, need, schedule, enc, dec, whitened, Whitens}
 use Rattle.layers.specs.JoinedLemmas.{same₃, two_parts}
 use Rattle.layers.specs.AnswersLemmas.{risen_ok, both_ok, split_ok, bounded_within, bounded_above, ok_is}

@@ -1,17 +1,15 @@
 -- The end of a CBC link, over the arrays of its record. Assumes nothing.
-use Rattle.std.proofs.Common.{◌≡◌, ℕ, suc, ◌+◌, ◌-◌, ◌%◌, ◌<◌, ◌≤◌, Bool, true, false, not, ltb, List, [], ◌∷◌, ◌++◌, length, take, drop, replicate, is_some, Some, None, Ok, Err, Option, Result, sym, refl, ap, ◌∙◌, subst, ap₂, mod-eq_of_lt, arith, length-append}
+use Rattle.std.proofs.Common.{◌≡◌, ℕ, ◌-◌, ◌%◌, ◌<◌, ◌≤◌, Bool, true, false, not, List, [], ◌∷◌, ◌++◌, length, take, replicate, is_some, Some, Ok, Err, sym, refl, ap, ◌∙◌, ap₂, mod-eq_of_lt, arith, length-append}
 use lib.ListN.{length-replicate}
 use Rattle.std.proofs.lemmas.List.{length-take, length-take-le, take-take, take_all, take_at}
 use Rattle.std.proofs.lemmas.Bool.{lt-ltb, le-ltb}
-use Rattle.refusal.specs.Checks.{first, Answers}
-use Rattle.refusal.specs.declared.Refusal.{Refusal}
+use Rattle.refusal.specs.Checks.{first}
 use Rattle.refusal.specs.declared.Refusal.TheVariants.{Output, Ragged, Padding}
 use Rattle.kit.specs.Meaning.{Meaning}
 use Rattle.modes.specs.Join.{join, part}
 use Rattle.modes.specs.Padding.{padding, padded_from, text_end, Unpadded}
 use Rattle.modes.specs.Modes.{Cipher}
-use Rattle.modes.specs.Machine.{state, closing, ragged, bare, before, last_text}
-use Rattle.modes.specs.declared.Mode.{Mode}
+use Rattle.modes.specs.Machine.{closing, ragged, bare, before, last_text}
 use Rattle.modes.specs.declared.Mode.TheVariants.{Cbc}
 use Rattle.modes.specs.declared.Direction.{Direction}
 use Rattle.modes.specs.declared.Direction.TheVariants.{Send, Receive}
@@ -19,7 +17,7 @@ use Rattle.modes.proofs.Blocks.{is_full}
 use Rattle.modes.proofs.Paddings.{length_padded_from}
 use Rattle.link.specs.declared.Link.{Link}
 use Rattle.link.specs.Record.{view, instrument, Fits}
-use Rattle.link.specs.Calls.{overwritten, link_closing, end_checks, Closed, Ends}
+use Rattle.link.specs.Calls.{overwritten, link_closing, Ends}
 use Rattle.link.proofs.Steps.{limit_as}
 
 -- an array's first w bytes, padded from count on, are what is held with its padding

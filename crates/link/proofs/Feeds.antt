@@ -1,9 +1,9 @@
 -- A piece, byte after byte. Assumes nothing.
-use Rattle.std.proofs.Common.{◌≡◌, ℕ, ◌+◌, ◌-◌, ◌<◌, ◌≤◌, List, [], ◌∷◌, ◌++◌, length, get_or, take, drop, sym, refl, ap, ◌∙◌, subst, ap₂, append-nil, arith, length-append, take-append-drop}
+use Rattle.std.proofs.Common.{◌≡◌, ℕ, ◌+◌, ◌<◌, ◌≤◌, List, [], ◌∷◌, ◌++◌, length, get_or, take, drop, sym, refl, ap, ◌∙◌, subst, append-nil, arith, length-append, take-append-drop}
 use borrow.Rule.Slice.PartMut.{put_mid}
 use Rattle.std.proofs.lemmas.List.{take_more, take_all, length-drop}
 use Rattle.kit.specs.Meaning.{Meaning}
-use Rattle.modes.specs.Machine.{fed, due, after, given}
+use Rattle.modes.specs.Machine.{fed, due, given}
 use Rattle.modes.proofs.Pieces.{after_append, given_append}
 use Rattle.link.specs.declared.Link.{Link}
 use Rattle.link.specs.Record.{view, instrument, Fits, Kept}

@@ -4,7 +4,7 @@ use Rattle.std.proofs.lemmas.List.{length-take-le, take_more_set}
 use Rattle.kit.specs.Meaning.{Meaning}
 use Rattle.modes.specs.Join.{join, part}
 use Rattle.modes.specs.Modes.{Cipher}
-use Rattle.modes.specs.Machine.{State, state, push, fed, due, limit}
+use Rattle.modes.specs.Machine.{state, push, fed, due, limit}
 use Rattle.modes.specs.declared.Mode.{Mode}
 use Rattle.modes.specs.declared.Mode.TheVariants.{Cbc}
 use Rattle.modes.specs.declared.Direction.{Direction}

@@ -3,7 +3,7 @@ use Rattle.std.proofs.Common.{◌≡◌, ℕ, zero, suc, ◌+◌, ◌<◌, ◌�
 use Rattle.std.proofs.lemmas.List.{length-take-le, length-set, get_or-take}
 use Rattle.kit.specs.Meaning.{Meaning}
 use Rattle.modes.specs.Modes.{Cipher, Streams, cfb, ofb}
-use Rattle.modes.specs.Machine.{State, state, push, pad, mixed, cipher_byte, rolled, stream_state, stream_byte, limit}
+use Rattle.modes.specs.Machine.{state, push, pad, mixed, cipher_byte, rolled, stream_state, stream_byte, limit}
 use Rattle.modes.specs.declared.Mode.{Mode}
 use Rattle.modes.specs.declared.Mode.TheVariants.{Cbc, Cfb, Ofb}
 use Rattle.modes.specs.declared.Direction.{Direction}

@@ -1,15 +1,15 @@
 -- What each call on a link answers and leaves. Assumes nothing.
-use Rattle.std.specs.Prelude.{◌≡◌, ℕ, ◌≤◌, Bool, List, [], ◌∷◌, ◌++◌, length, take, drop, Ok, Err, Result, MatchResult, nat_lt}
+use Rattle.std.specs.Prelude.{◌≡◌, ℕ, ◌≤◌, Bool, List, [], ◌∷◌, ◌++◌, length, take, drop, Result, MatchResult, nat_lt}
 use Rattle.refusal.specs.Checks.{Answers}
 use Rattle.refusal.specs.declared.Refusal.{Refusal}
 use Rattle.refusal.specs.declared.Refusal.TheVariants.{Piece, Output, Ragged, Padding}
 use Rattle.block.specs.Bytes.{Bytes}
 use Rattle.kit.specs.Meaning.{Meaning, Sound}
-use Rattle.modes.specs.Machine.{State, fed, due, after, given, closing, ragged, bare, pad, due_count}
+use Rattle.modes.specs.Machine.{State, fed, due, after, given, closing, ragged, bare, pad}
 use Rattle.link.specs.declared.Link.{Link}
 use Rattle.link.specs.declared.Call.{Call}
 use Rattle.link.specs.declared.Call.TheVariants.{Byte, End}
-use Rattle.link.specs.Record.{view, instrument, Fits, Kept, link}
+use Rattle.link.specs.Record.{view, instrument, Fits, Kept}
 
 -- a list with its first places overwritten by g
 abbrev pub overwritten : List ℕ → List ℕ → List ℕ

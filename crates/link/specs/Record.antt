@@ -1,5 +1,5 @@
 -- What a link's record means: the state of its machine, and its cipher. Assumes nothing.
-use Rattle.std.specs.Prelude.{◌≡◌, ℕ, ◌-◌, ◌<◌, ◌≤◌, true, false, List, ◌++◌, length, take, replicate}
+use Rattle.std.specs.Prelude.{◌≡◌, ℕ, ◌-◌, ◌<◌, ◌≤◌, true, false, List, ◌++◌, take, replicate}
 use Rattle.kit.specs.Meaning.{Meaning}
 use Rattle.kit.specs.Calls.{enciphered, deciphered}
 use Rattle.modes.specs.Join.{join_byte, part_byte}

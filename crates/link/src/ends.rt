@@ -8,7 +8,7 @@ ghost use Rattle.link.specs.Record.{Fits};
 ghost use Rattle.link.specs.Calls.{Ends};
 
 use crate::Link;
-use crate::block::{are_bytes, opened_block, sealed_block, write_front};
+use crate::blocks::{are_bytes, opened_block, sealed_block, write_front};
 use kit::Kit;
 use modes::padding::{pad_from, text_end};
 use refusal::Refusal;
@@ -24,7 +24,7 @@ impl Link {
         requires fits { Fits self.now }
         requires cbc { self.now.mode ≡ Cbc }
         requires sends { self.now.direction ≡ Send }
-        ensures { Ends (meaning kit.now) schedule.now self.now out.old result out.new }
+        ensures { Ends (K.Kit.meaning kit.now) schedule.now self.now out.old result out.new }
     {
         are_bytes(&self.chain);
         are_bytes(&self.held);
@@ -48,7 +48,7 @@ impl Link {
         requires fits { Fits self.now }
         requires cbc { self.now.mode ≡ Cbc }
         requires receives { self.now.direction ≡ Receive }
-        ensures { Ends (meaning kit.now) schedule.now self.now out.old result out.new }
+        ensures { Ends (K.Kit.meaning kit.now) schedule.now self.now out.old result out.new }
     {
         if self.count < self.width {
             return Err(Refusal::Ragged);

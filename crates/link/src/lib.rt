@@ -1,17 +1,19 @@
 // One radio link's record and its steps, over any kit: it takes text or ciphertext in pieces and gives its mode's bytes.
 // Promises, for every schedule, which bytes a piece and the end give, the record that is left, and each refusal.
 // Rests on the machine and the laws of crate modes, and on the calls of crate kit.
+#![tactic(auto)]
+
 ghost use Rattle.std.specs.Prelude.{◌≡◌, ℕ, ◌<◌, ◌≤◌, List, length, MatchResult};
 ghost use Rattle.kit.specs.Meaning.{Meaning};
 ghost use Rattle.modes.specs.Machine.{due_count, opened as opens};
 ghost use Rattle.link.specs.Record.{view, Fits, closed as zeros, begun};
 ghost use Rattle.link.specs.Calls.{Room, Stepped, Fed, Puts, Ends, Gives, link_given};
 
-mod block;
+mod blocks;
 mod ends;
 mod takes;
 
-use crate::block::are_bytes;
+use crate::blocks::are_bytes;
 use kit::Kit;
 use modes::{Direction, Mode};
 use refusal::Refusal;
@@ -118,8 +120,8 @@ impl Link {
         out: &mut [u8],
     ) -> Result<usize, Refusal>
         requires fits { Fits self.old }
-        requires room { Room (meaning kit.now) schedule.now self.old call (length out.old) }
-        ensures { Stepped (meaning kit.now) schedule.now self.old call out.old result self.new out.new }
+        requires room { Room (K.Kit.meaning kit.now) schedule.now self.old call (length out.old) }
+        ensures { Stepped (K.Kit.meaning kit.now) schedule.now self.old call out.old result self.new out.new }
     {
         match (self.mode, self.direction, call) {
             (Mode::Cbc, Direction::Send, Call::Byte(x)) => Ok(self.send_byte(
@@ -146,8 +148,8 @@ impl Link {
         out: &mut [u8],
     ) -> Result<usize, Refusal>
         requires fits { Fits self.old }
-        requires room { length (link_given (meaning kit.now) schedule.now self.old piece.now) ≤ length out.old }
-        ensures { MatchResult result (λ n. Fed (meaning kit.now) schedule.now self.old piece.now out.old n self.new out.new) (λ _. ⊥) }
+        requires room { length (link_given (K.Kit.meaning kit.now) schedule.now self.old piece.now) ≤ length out.old }
+        ensures { MatchResult result (λ n. Fed (K.Kit.meaning kit.now) schedule.now self.old piece.now out.old n self.new out.new) (λ _. ⊥) }
     {
         let mut at = 0;
         for i in 0..piece.len() {
@@ -167,7 +169,7 @@ impl Link {
         out: &mut [u8],
     ) -> Result<usize, Refusal>
         requires { Fits self.old }
-        ensures { Puts (meaning kit.now) schedule.now self.old piece.now out.old result self.new out.new }
+        ensures { Puts (K.Kit.meaning kit.now) schedule.now self.old piece.now out.old result self.new out.new }
     {
         if piece.len() > LONGEST {
             return Err(Refusal::Piece);
@@ -181,7 +183,7 @@ impl Link {
     // Ends the link: its last bytes stand at the front of `out`, which holds the rest as before.
     pub fn end<K: Kit>(&self, kit: &K, schedule: &[u8], out: &mut [u8]) -> Result<usize, Refusal>
         requires { Fits self.now }
-        ensures { Ends (meaning kit.now) schedule.now self.now out.old result out.new }
+        ensures { Ends (K.Kit.meaning kit.now) schedule.now self.now out.old result out.new }
     {
         let mut link = *self;
         link.step(kit, schedule, Call::End, out)

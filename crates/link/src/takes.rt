@@ -9,7 +9,7 @@ ghost use Rattle.link.specs.Record.{Fits, link};
 ghost use Rattle.link.specs.Calls.{Took, link_due, link_pad};
 
 use crate::Link;
-use crate::block::{coded_byte, mix_byte, opened_block, pad_block, sealed_block, write_front};
+use crate::blocks::{coded_byte, mix_byte, opened_block, pad_block, sealed_block, write_front};
 use kit::Kit;
 use modes::Mode;
 
@@ -23,10 +23,10 @@ impl Link {
         out: &mut [u8],
     ) -> usize
         requires fits { Fits self.old }
-        requires room { length (link_due (meaning kit.now) schedule.now self.old x) ≤ length out.old }
+        requires room { length (link_due (K.Kit.meaning kit.now) schedule.now self.old x) ≤ length out.old }
         requires cbc { self.old.mode ≡ Cbc }
         requires sends { self.old.direction ≡ Send }
-        ensures { Took (meaning kit.now) schedule.now self.old x out.old result self.new out.new }
+        ensures { Took (K.Kit.meaning kit.now) schedule.now self.old x out.old result self.new out.new }
     {
         self.held[self.count] = x;
         if self.count + 1 < self.width {
@@ -49,10 +49,10 @@ impl Link {
         out: &mut [u8],
     ) -> usize
         requires fits { Fits self.old }
-        requires room { length (link_due (meaning kit.now) schedule.now self.old x) ≤ length out.old }
+        requires room { length (link_due (K.Kit.meaning kit.now) schedule.now self.old x) ≤ length out.old }
         requires cbc { self.old.mode ≡ Cbc }
         requires receives { self.old.direction ≡ Receive }
-        ensures { Took (meaning kit.now) schedule.now self.old x out.old result self.new out.new }
+        ensures { Took (K.Kit.meaning kit.now) schedule.now self.old x out.old result self.new out.new }
     {
         if self.count < self.width {
             self.held[self.count] = x;
@@ -71,7 +71,7 @@ impl Link {
     // CFB and OFB: at a block's first byte its pad takes the chain block's place.
     fn begin_block<K: Kit>(&mut self, kit: &K, schedule: &[u8])
         requires { Fits self.old }
-        ensures pad { take self.old.width self.new.chain ≡ link_pad (meaning kit.now) schedule.now self.old }
+        ensures pad { take self.old.width self.new.chain ≡ link_pad (K.Kit.meaning kit.now) schedule.now self.old }
         ensures rest { self.new ≡ link self.old self.new.chain self.old.held self.old.count }
     {
         if self.count > 0 {
@@ -102,9 +102,9 @@ impl Link {
         out: &mut [u8],
     ) -> usize
         requires fits { Fits self.old }
-        requires room { length (link_due (meaning kit.now) schedule.now self.old x) ≤ length out.old }
+        requires room { length (link_due (K.Kit.meaning kit.now) schedule.now self.old x) ≤ length out.old }
         requires streams { self.old.mode ≢ Cbc }
-        ensures { Took (meaning kit.now) schedule.now self.old x out.old result self.new out.new }
+        ensures { Took (K.Kit.meaning kit.now) schedule.now self.old x out.old result self.new out.new }
     {
         self.begin_block(kit, schedule);
         let y = mix_byte(self.direction, x, self.chain[self.count]);

@@ -1,5 +1,5 @@
 -- The steps one by one: they make up the round, and when one is refused. Assumes nothing.
-use Rattle.std.proofs.Common.{◌≡◌, ℕ, ◌*◌, true, false, not, ◌||◌, eqb, ◌⊎◌, List, length, Some, None, sym, refl, ap, ◌∙◌, inl, inr, arith}
+use Rattle.std.proofs.Common.{◌≡◌, ℕ, ◌*◌, eqb, ◌⊎◌, List, length, None, sym, refl, ap, ◌∙◌, inl, inr, arith}
 use Rattle.std.proofs.lemmas.Bool.{eq-eqb, ne_eqb, cond-true, cond-false}
 use Rattle.refusal.specs.Checks.{first}
 use Rattle.field.specs.Known.{m4, m4_inverse, m8, m8_inverse}

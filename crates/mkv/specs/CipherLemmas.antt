@@ -1,9 +1,9 @@
 -- Enciphering and deciphering undo one another under every schedule, at any width and number of rounds. Assumes nothing.
-use Rattle.std.specs.Prelude.{◌≡◌, ℕ, zero, suc, ◌+◌, ◌-◌, ◌*◌, ◌≤◌, List, length, take, drop, ◌≢◌, refl}
+use Rattle.std.specs.Prelude.{◌≡◌, ℕ, zero, suc, ◌+◌, ◌-◌, ◌*◌, ◌≤◌, List, take, drop, ◌≢◌, refl}
 use Rattle.std.proofs.Math.Path.{sym, ap}
 use Rattle.std.proofs.Common.{◌∙◌, arith, suc-mul, zero-mul}
 use Rattle.std.proofs.lemmas.List.{length-drop, length-take-le}
-use Rattle.block.specs.Bytes.{Bytes, Block, xor}
+use Rattle.block.specs.Bytes.{Block, xor}
 use Rattle.block.proofs.Xor.{cancels, block_xor}
 use Rattle.block.proofs.Parts.{bytes_take, bytes_drop}
 use Rattle.mkv.specs.Steps.{round, round_back}

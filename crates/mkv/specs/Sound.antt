@@ -1,9 +1,9 @@
 -- MKV is sound as a kit, at both widths at once. Assumes nothing.
-use Rattle.std.specs.Prelude.{◌≡◌, ℕ, ◌+◌, ◌*◌, ◌/◌, ◌≤◌, cond, ◌⊎◌, List, [], length, Some, None, Ok, Err, Option, ◌==◌, ◌≢◌, refl}
+use Rattle.std.specs.Prelude.{◌≡◌, ℕ, ◌+◌, ◌*◌, ◌/◌, ◌≤◌, cond, ◌⊎◌, List, [], length, Some, None, Ok, Option, ◌==◌, ◌≢◌}
 use Rattle.std.proofs.Common.{sym, ap, ◌∙◌, subst, inl, inr, arith}
 use Rattle.std.proofs.lemmas.Bool.{cases_eq, eq-eqb, ne_eqb, cond-true, cond-false}
 use Rattle.block.specs.Bytes.{Bytes, Block}
-use Rattle.kit.specs.Meaning.{Meaning, Sized, Sound}
+use Rattle.kit.specs.Meaning.{Sized, Sound}
 use Rattle.mkv.specs.Cipher.{encipher, decipher}
 use Rattle.mkv.specs.Keys.{schedule as round_keys}
 use Rattle.mkv.specs.Versions.{rounds, cells, under, mkv}

@@ -1,9 +1,9 @@
 -- The steps of MKV keep blocks, and the round undone undoes the round, at any width. Assumes nothing.
-use Rattle.std.specs.Prelude.{◌≡◌, ℕ, ◌*◌, List, length, take, drop, refl}
+use Rattle.std.specs.Prelude.{◌≡◌, ℕ, ◌*◌, List, length}
 use Rattle.std.proofs.Math.Path.{sym, ap}
-use Rattle.std.proofs.Common.{ap₂, ◌∙◌, arith}
+use Rattle.std.proofs.Common.{◌∙◌, arith}
 use Rattle.std.proofs.lemmas.List.{length-drop, length-take-le}
-use Rattle.block.specs.Bytes.{Bytes, Block, xor}
+use Rattle.block.specs.Bytes.{Block, xor}
 use Rattle.block.proofs.Xor.{cancels, block_xor}
 use Rattle.block.proofs.Parts.{bytes_take, bytes_drop}
 use Rattle.block.proofs.Tables.{sub_back, block_sub}

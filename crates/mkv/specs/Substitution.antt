@@ -1,6 +1,5 @@
 -- The two tables of MKV lead back from one another: one test over the whole table each. Assumes nothing.
 use Rattle.std.specs.Prelude.{T}
-use Rattle.block.specs.Table.{Reverses}
 use Rattle.block.proofs.Test.{below}
 use Rattle.block.proofs.Tables.{reverse_test, reverses_by}
 use Rattle.mkv.specs.Tables.{s, s_inverse, Tables}

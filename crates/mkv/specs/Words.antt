@@ -1,13 +1,13 @@
 -- XWords: the four words of a block, and that XWords undoes itself. Assumes nothing.
-use Rattle.std.specs.Prelude.{◌≡◌, ℕ, ◌+◌, ◌-◌, ◌*◌, ◌<◌, ◌≤◌, List, [], ◌++◌, length, take, drop, bit_xor, slice_index, refl}
+use Rattle.std.specs.Prelude.{◌≡◌, ℕ, ◌+◌, ◌*◌, ◌<◌, ◌≤◌, List, [], ◌++◌, length, take, drop, bit_xor, slice_index, refl}
 use Rattle.std.proofs.Math.Path.{sym, ap}
-use Rattle.std.proofs.Common.{ap₂, ◌∙◌, zero-mul, one-mul, mul-le-mul_right, suc-mul, length-append}
+use Rattle.std.proofs.Common.{ap₂, ◌∙◌, zero-mul, one-mul, length-append}
 use native.Mathlib.Omega.{arith}
-use Rattle.std.proofs.lemmas.List.{length-drop, length-take-le, take_at, drop_at, take-append-drop, drop-drop, append_assoc, append-nil, take_all, drop_all, get_or-take, get_or-drop}
-use borrow.Rule.Slice.PartMut.{put_mid, post_of}
-use Rattle.block.specs.Bytes.{Bytes, Block, xor}
+use Rattle.std.proofs.lemmas.List.{length-drop, length-take-le, take_at, drop_at, take-append-drop, drop-drop, append_assoc, append-nil, take_all, drop_all}
+use borrow.Rule.Slice.PartMut.{put_mid}
+use Rattle.block.specs.Bytes.{Block, xor}
 use Rattle.block.specs.Words.{word}
-use Rattle.block.proofs.Xor.{associates, commutes, cancels, cancels_both, length_xor, bytes_xor, getD_xor, block_xor}
+use Rattle.block.proofs.Xor.{associates, commutes, cancels, cancels_both, length_xor, get_or_xor, block_xor}
 use Rattle.block.proofs.Parts.{bytes_append, bytes_take, bytes_drop}
 use Rattle.block.proofs.Words.{word_end}
 use Rattle.mkv.specs.Steps.{three, x_words}
@@ -186,8 +186,8 @@ unfolding x_words
 x_words_is t x = refl
 
 -- the XOR of three words, at one place
-pub getD_three : (t i j k : ℕ) (b : List ℕ) (x : ℕ)
+pub get_or_three : (t i j k : ℕ) (b : List ℕ) (x : ℕ)
     → slice_index (three t i j k b) x ≡ bit_xor (slice_index (word t i b) x) (bit_xor (slice_index (word t j b) x) (slice_index (word t k b) x))
 unfolding three
-getD_three t i j k b x =
-    getD_xor (word t i b) (xor (word t j b) (word t k b)) x ∙ ap (bit_xor (slice_index (word t i b) x)) (getD_xor (word t j b) (word t k b) x)
+get_or_three t i j k b x =
+    get_or_xor (word t i b) (xor (word t j b) (word t k b)) x ∙ ap (bit_xor (slice_index (word t i b) x)) (get_or_xor (word t j b) (word t k b) x)

@@ -1,6 +1,8 @@
 // The block cipher MKV in its six versions: two kits, of 16 and of 32 bytes, over one text.
 // Promises each kit the standard's cipher as its meaning, refusals included, and every step of a round by itself.
 // Rests on the interface (kit), the round (round) and the key schedule (schedule).
+#![tactic(auto)]
+
 ghost use Rattle.std.specs.Prelude.{◌≡◌, ◌+◌, ◌*◌, ◌⊎◌, length, IfOk, Some};
 ghost use Rattle.refusal.specs.Checks.{first, refusal};
 ghost use Rattle.kit.specs.Calls.{told, expand_checks, unless};

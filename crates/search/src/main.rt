@@ -1,6 +1,8 @@
 // The program: reads search files, goes through each search step by step, and writes the season's file.
 // Promises nothing by itself: what it prints of a step is what `patrol` returned.
 // Rests on `patrol`, `searchfile` and `signal`.
+#![tactic(auto)]
+
 mod options;
 mod run;
 

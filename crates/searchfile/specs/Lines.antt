@@ -1,5 +1,5 @@
 -- What the figures of a line say, and which fault is told where one is none. Assumes nothing.
--- Of signal: `Figure`, `Distance-text` and `Time-text` say which texts are a figure, and `value`, `decimetres` and `seconds` what it is.
+-- Of signal: `Figure` and `DistanceText` say which texts are a figure. Of std and signal: `digits_value` and `decimetres` say what it is.
 use Rattle.std.specs.Prelude.{◌≡◌, ℕ, ◌<◌, List, length, Ok, Err, Result}
 use Rattle.std.specs.Str.Parse.{digits_value}
 use Rattle.signal.specs.Figures.{Figure, DistanceText, decimetres}

@@ -1,6 +1,8 @@
 // The search file: a search as people write it down, one statement a line.
 // Promises how the figures of a line are read, and which fault is told where one is none.
 // Rests on `signal`.
+#![tactic(auto)]
+
 mod fault;
 mod grammar;
 

@@ -1,6 +1,8 @@
 // The tests of the search file and of searches, in a crate of their own, since a crate with tests is proved twice.
 // Promises nothing: every test is proved to end, and is then run.
 // Rests on `patrol` and `searchfile`.
+#![tactic(auto)]
+
 #[cfg(test)]
 mod tests {
     use patrol::Search;

@@ -2,9 +2,9 @@ use Rattle.std.proofs.Common.{◌≡◌, zero, ◌≤◌, length, replicate, sym
 use lib.ListN.{length-replicate}
 use Rattle.std.proofs.lemmas.List.{get_or-replicate, get_or_past}
 use Rattle.block.specs.Bytes.{fitted}
-use Rattle.block.proofs.Loops.{over_more, over_all, length_fitted, getD_fitted}
+use Rattle.block.proofs.Loops.{over_more, over_all, length_fitted, get_or_fitted}
 use Rattle.field.specs.Matrix.{dot, apply}
-use Rattle.field.proofs.Matrices.{length_apply, getD_apply}
+use Rattle.field.proofs.Matrices.{length_apply, get_or_apply}
 use Rattle.field.proofs.apply.Goals as goal
 
 pub loop-i-preserved : goal.loop-i-preserved
@@ -17,7 +17,7 @@ loop-i-preserved g c =
     let row = c.index-m-i.result in
     let n : length (replicate t zero) ≡ t = length-replicate t zero in
     over_more (fitted t (apply p m v)) (replicate t zero) c.loop-i.out i c.dot.result c.loop-i.invariant (omega arith) (length_fitted t (apply p m v) ∙ sym n)
-    (c.dot.ensures ∙ ap (λ r. dot p r v) c.index-m-i.is ∙ sym (getD_fitted t (apply p m v) i (omega arith) ∙ getD_apply p m v i row (omega arith)))
+    (c.dot.ensures ∙ ap (λ r. dot p r v) c.index-m-i.is ∙ sym (get_or_fitted t (apply p m v) i (omega arith) ∙ get_or_apply p m v i row (omega arith)))
 
 pub returns : goal.returns
 returns g c =
@@ -30,4 +30,4 @@ returns g c =
     c.loop-i.invariant
     ∙ over_all (fitted t (apply p m v)) (replicate t zero) c.loop-i.i (length_fitted t (apply p m v) ∙ sym n) (λ k h l.
     let past : length (apply p m v) ≤ k = omega arith in
-    get_or-replicate t k zero 0 (omega arith) ∙ sym (getD_fitted t (apply p m v) k (omega arith) ∙ get_or_past (apply p m v) k 0 past))
+    get_or-replicate t k zero 0 (omega arith) ∙ sym (get_or_fitted t (apply p m v) k (omega arith) ∙ get_or_past (apply p m v) k 0 past))

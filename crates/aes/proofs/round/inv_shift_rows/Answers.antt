@@ -1,4 +1,4 @@
-use Rattle.std.proofs.Common.{◌≡◌, zero, length, replicate, sym, refl, ◌∙◌, arith, length-set}
+use Rattle.std.proofs.Common.{zero, replicate, sym, ◌∙◌, length-set}
 use Rattle.block.proofs.Loops.{over_more, over_whole}
 use Rattle.aes.specs.Steps.{moved, from_left, inv_shift_rows}
 use Rattle.aes.specs.StepsLemmas.{length_moved, get_d_moved}

@@ -1,4 +1,4 @@
-use Rattle.std.proofs.Common.{◌≡◌, ◌+◌, ◌-◌, sym, ap, ◌∙◌, ap₂, arith}
+use Rattle.std.proofs.Common.{◌≡◌, ◌+◌, ◌-◌, ap, ◌∙◌, ap₂, arith}
 use Rattle.aes.specs.Steps.{add_round_key}
 use Rattle.aes.specs.Cipher.{round, rounds, last_round, encipher}
 use Rattle.aes.specs.CipherLemmas.{rounds_none, rounds_more}

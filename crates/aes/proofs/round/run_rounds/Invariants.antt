@@ -1,4 +1,4 @@
-use Rattle.std.proofs.Common.{◌≡◌, ◌-◌, length}
+use Rattle.std.proofs.Common.{◌≡◌, ◌-◌}
 use Rattle.aes.specs.Cipher.{rounds}
 use Rattle.aes.proofs.round.run_rounds.Given as goal
 

@@ -1,7 +1,6 @@
-use Rattle.std.proofs.Common.{◌≡◌, ◌-◌, length, sym, ap, ◌∙◌, ap₂, rules}
+use Rattle.std.proofs.Common.{◌≡◌, length, sym, ap, ◌∙◌, ap₂, rules}
 use Rattle.block.specs.Bytes.{xor}
 use Rattle.block.proofs.Xor.{xor_whole, commutes}
-use Rattle.block.specs.Words.{word}
 use Rattle.aes.specs.Keys.{changed, next}
 use Rattle.aes.proofs.schedule.next_word.Goals as goal
 

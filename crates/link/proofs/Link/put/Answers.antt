@@ -1,4 +1,4 @@
-use Rattle.std.proofs.Common.{◌≡◌, ◌<◌, ◌≤◌, length, refl, arith, rules}
+use Rattle.std.proofs.Common.{◌≤◌, length, refl, arith, rules}
 use Rattle.block.proofs.Parts.{bytes_from}
 use Rattle.link.proofs.Puts.{put_short, put_given}
 use Rattle.link.proofs.Link.put.Goals as goal

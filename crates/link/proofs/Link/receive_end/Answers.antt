@@ -1,4 +1,4 @@
-use Rattle.std.proofs.Common.{◌≡◌, ℕ, ◌-◌, ◌≤◌, length, take, sym, ap, ◌∙◌, arith, rules}
+use Rattle.std.proofs.Common.{◌≡◌, ◌-◌, ◌≤◌, length, take, sym, ap, ◌∙◌, arith, rules}
 use Rattle.std.proofs.lemmas.List.{length-take, take-take}
 use Rattle.link.specs.Calls.{overwritten}
 use Rattle.link.proofs.Closings.{end_short, end_given, end_low, text_whole, text_marked, receive_closing, receive_count}

@@ -1,4 +1,4 @@
-use Rattle.std.proofs.Common.{◌≡◌, ◌+◌, ◌-◌, ◌*◌, ◌≤◌, take, drop, ap, ◌∙◌, arith, rules}
+use Rattle.std.proofs.Common.{◌≡◌, ◌+◌, ◌-◌, ◌*◌, ◌≤◌, take, drop, ap, arith, rules}
 use Rattle.block.specs.Words.{word}
 use Rattle.block.proofs.Words.{word_end}
 use Rattle.mkv.proofs.round.word.Goals as goal

@@ -1,9 +1,9 @@
-use Rattle.std.proofs.Common.{◌≡◌, ℕ, zero, ◌<◌, length, get_or, replicate, sym, ap, ◌∙◌, ap₂, arith, rules}
+use Rattle.std.proofs.Common.{◌≡◌, zero, length, get_or, replicate, sym, ap, ◌∙◌, ap₂, arith, rules}
 use lib.Bits.{bit_xor}
 use lib.ListN.{length-replicate}
 use Rattle.block.proofs.Loops.{over_more, over_whole}
 use Rattle.mkv.specs.Steps.{three}
-use Rattle.mkv.specs.Words.{length_word, length_three, getD_three}
+use Rattle.mkv.specs.Words.{length_word, length_three, get_or_three}
 use Rattle.mkv.proofs.round.xor_of.Goals as goal
 
 pub bounds-a-x : goal.bounds-a-x
@@ -37,7 +37,7 @@ loop-x-preserved g c =
     over_more (three t i j k b) (replicate t zero) c.loop-x.out x _ c.loop-x.invariant (omega arith) e
     (ap₂ bit_xor (ap (λ l. get_or l x 0) c.word-a.ensures)
     (ap₂ bit_xor (ap (λ l. get_or l x 0) c.word-b.ensures) (ap (λ l. get_or l x 0) c.word-c.ensures))
-    ∙ sym (getD_three t i j k b x))
+    ∙ sym (get_or_three t i j k b x))
 
 pub returns : goal.returns
 returns g c =

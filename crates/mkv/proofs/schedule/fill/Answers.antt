@@ -1,5 +1,5 @@
 use Rattle.std.proofs.Common.{◌≡◌, ◌-◌, ◌*◌, ◌++◌, length, take, ap, ◌∙◌, ap₂, arith}
-use Rattle.mkv.specs.Keys.{updates, start_left, start_right, schedule}
+use Rattle.mkv.specs.Keys.{updates, start_left, schedule}
 use Rattle.mkv.specs.KeysLemmas.{part_written}
 use Rattle.mkv.proofs.schedule.fill.Goals as goal
 

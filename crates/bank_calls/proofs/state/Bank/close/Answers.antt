@@ -1,5 +1,4 @@
-use Rattle.std.proofs.Common.{◌≡◌, ◌<◌, ◌≤◌, true, false, ltb, sym, refl, ap, ◌∙◌, arith}
-use Rattle.std.proofs.lemmas.Bool.{le-ltb, both_ways}
+use Rattle.std.proofs.Common.{ap}
 use Rattle.shelf.specs.Standing.{standing}
 use Rattle.bank_calls.proofs.Invariants.{written}
 use Rattle.bank_calls.proofs.Closes.{dropped, shut_sits}

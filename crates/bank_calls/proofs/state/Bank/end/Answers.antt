@@ -1,4 +1,4 @@
-use Rattle.std.proofs.Common.{◌≡◌, ℕ, length, Ok, Err, sym, refl, ap, ◌∙◌, subst, arith, rules}
+use Rattle.std.proofs.Common.{◌≡◌, ℕ, length, Ok, Err, sym, refl, subst, rules}
 use Rattle.bank.specs.Calls.{Ends}
 use Rattle.refusal.specs.declared.Refusal.TheVariants.{Scratch}
 use Rattle.bank_calls.specs.Seen.{books}

@@ -1,8 +1,8 @@
-use Rattle.std.proofs.Common.{◌≡◌, sym, ap, ◌∙◌, arith}
+use Rattle.std.proofs.Common.{sym, ap, ◌∙◌, arith}
 use lib.ListN.{get_or-eq_default}
 use Rattle.std.proofs.lemmas.Bool.{le-ltb}
 use Rattle.link.specs.declared.Link.{Link}
-use Rattle.bank_calls.specs.Table.{absent, at}
+use Rattle.bank_calls.specs.Table.{absent}
 use Rattle.bank_calls.proofs.state.Bank.is_open.Goals as goal
 
 pub returns-else-link-lt-LINKS : goal.returns-else-link-lt-LINKS

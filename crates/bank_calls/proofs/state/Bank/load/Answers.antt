@@ -1,4 +1,4 @@
-use Rattle.std.proofs.Common.{◌≡◌, sym, ◌∙◌}
+use Rattle.std.proofs.Common.{sym, ◌∙◌}
 use Rattle.bank_calls.proofs.Loads.{loaded}
 use Rattle.bank_calls.proofs.state.Bank.load.Goals as goal
 

@@ -1,6 +1,5 @@
-use Rattle.std.proofs.Common.{◌≡◌, sym, refl, ap, ◌∙◌, arith, Fits-lit, rules}
+use Rattle.std.proofs.Common.{◌≡◌, ap, ◌∙◌, arith}
 use Rattle.shelf.specs.Standing.{standing}
-use Rattle.bank_calls.specs.Table.{at}
 use Rattle.bank_calls.proofs.Seen.{open_count, eight_seen, below_open, below_shut}
 use Rattle.bank_calls.proofs.state.Bank.open_links.Goals as goal
 use Rattle.bank_calls.proofs.state.Bank.open_links.Goals.{then-self-i, else-self-i}

@@ -1,4 +1,4 @@
-use Rattle.std.proofs.Common.{◌≡◌, ℕ, ◌-◌, ◌*◌, ◌<◌, ◌≤◌, Bool, true, false, List, [], length, take, set, Some, None, Ok, Err, Result, sym, refl, ap, ◌∙◌, subst, ap₂, arith, rules, MatchResult}
+use Rattle.std.proofs.Common.{◌≡◌, ℕ, ◌-◌, ◌*◌, ◌≤◌, false, List, length, take, set, None, Ok, Err, Result, sym, refl, ap, ◌∙◌, subst, ap₂, arith, MatchResult}
 use Rattle.std.proofs.lemmas.List.{length-take-le}
 use Rattle.std.proofs.lemmas.Result.{err_from_is_err_and}
 use Rattle.refusal.specs.declared.Refusal.{Refusal}
@@ -12,10 +12,9 @@ use Rattle.shelf.specs.Calls.{Grown, Append}
 use Rattle.shelf.specs.Keys.{key_cells}
 use Rattle.shelf.proofs.KeyCells.{length_key_cells}
 use Rattle.shelf.proofs.Room.{grown_many}
-use Rattle.modes.specs.Machine.{opened}
 use Rattle.link.specs.declared.Link.{Link}
 use Rattle.link.specs.Record.{view, begun}
-use Rattle.bank.specs.Calls.{Ask, unknown, Opens, mode_of, direction_of}
+use Rattle.bank.specs.Calls.{unknown, Opens, mode_of, direction_of}
 use Rattle.bank_calls.specs.Seen.{books}
 use Rattle.bank_calls.specs.Calls.{asked_with, Kept, Takes}
 use Rattle.bank_calls.proofs.Seen.{kept_same}

@@ -1,4 +1,4 @@
-use Rattle.std.proofs.Common.{◌≡◌, ℕ, length, Ok, Err, sym, refl, ap, ◌∙◌, subst, arith, rules}
+use Rattle.std.proofs.Common.{◌≡◌, ℕ, length, Err, sym, refl, subst, rules}
 use Rattle.block.proofs.Parts.{bytes_from}
 use Rattle.bank.specs.Calls.{Puts}
 use Rattle.refusal.specs.declared.Refusal.TheVariants.{Scratch}

@@ -1,4 +1,4 @@
-use Rattle.std.proofs.Common.{◌≡◌, ℕ, ◌-◌, List, take, sym, refl, ap, ◌∙◌, subst, arith}
+use Rattle.std.proofs.Common.{◌≡◌, ℕ, ◌-◌, List, take, refl, ap, ◌∙◌, subst, arith}
 use Rattle.shelf.specs.Standing.{standing}
 use Rattle.shelf.specs.Items.{list}
 use Rattle.shelf.specs.Keys.{joined}

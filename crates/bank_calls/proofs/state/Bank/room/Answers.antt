@@ -1,4 +1,4 @@
-use Rattle.std.proofs.Common.{◌≡◌, Bool, true, false, not, [], sym, refl, ap, ◌∙◌, arith}
+use Rattle.std.proofs.Common.{not, [], refl, ap, ◌∙◌, arith}
 use Rattle.std.proofs.lemmas.Bool.{eq-eqb, lt-ltb, le-ltb}
 use Rattle.refusal.proofs.Checks.{told_here, told_later}
 use Rattle.shelf.specs.Standing.{standing, free}

@@ -1,8 +1,5 @@
-use Rattle.std.proofs.Common.{◌≡◌, refl}
-use Rattle.bank.specs.Past.{starts}
+use Rattle.std.proofs.Common.{refl}
 use Rattle.bank.proofs.Law.{law}
-use Rattle.std.proofs.lemmas.Bool.{both_ways}
-use Rattle.bank_calls.specs.Calls.{Sizes}
 use Rattle.bank_calls.proofs.Sizing.{sizes, begun}
 use Rattle.bank_calls.proofs.state.Bank.size.Goals as goal
 

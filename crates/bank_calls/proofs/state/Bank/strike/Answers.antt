@@ -1,4 +1,4 @@
-use Rattle.std.proofs.Common.{◌≡◌, ◌<◌, Bool, true, false, MatchBool, sym, refl, ap, ◌∙◌, subst, arith}
+use Rattle.std.proofs.Common.{◌≡◌, Bool, true, false, MatchBool, sym, refl, ◌∙◌, subst, arith}
 use Rattle.bank_calls.specs.Calls.{Kept, Shuts, StrikesOne}
 use Rattle.bank_calls.specs.Table.{at}
 use Rattle.bank_calls.proofs.Tables.{open_below}

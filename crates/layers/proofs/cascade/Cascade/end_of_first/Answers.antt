@@ -1,4 +1,4 @@
-use Rattle.std.proofs.Common.{◌≡◌, ◌≤◌, sym, ap, ◌∙◌, rules}
+use Rattle.std.proofs.Common.{◌≤◌, sym, ap, ◌∙◌, rules}
 use Rattle.kit.specs.Calls.{told}
 use Rattle.kit.proofs.Calls.{expand_passes, told_ok}
 use Rattle.layers.specs.Cascaded.{need as cascaded_need}

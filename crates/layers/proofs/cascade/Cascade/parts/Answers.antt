@@ -1,4 +1,4 @@
-use Rattle.std.proofs.Common.{◌≡◌, length, take, drop, sym, refl, ap, ◌∙◌}
+use Rattle.std.proofs.Common.{length, take, drop, sym, refl, ap, ◌∙◌}
 use Rattle.kit.proofs.Calls.{cipher_passes}
 use Rattle.layers.specs.Cascaded.{need as cascaded_need}
 use Rattle.layers.specs.AnswersLemmas.{expand_due}

@@ -1,9 +1,9 @@
-use Rattle.std.proofs.Common.{◌≡◌, ℕ, ◌≤◌, length, sym, ap, ◌∙◌, arith, rules}
+use Rattle.std.proofs.Common.{◌≡◌, ℕ, length, sym, ◌∙◌, arith}
 use Rattle.block.proofs.Parts.{bytes_from}
 use Rattle.kit.proofs.Calls.{expand_passes, expanded_fits}
 use Rattle.layers.specs.Cascaded.{cascaded, need as cascaded_need}
 use Rattle.layers.specs.AnswersLemmas.{expand_due}
-use Rattle.layers.specs.CascadesLemmas.{accepted, end_is, first_accepted, first_written, second_accepted, second_written, written}
+use Rattle.layers.specs.CascadesLemmas.{accepted, first_accepted, first_written, second_accepted, second_written, written}
 use Rattle.layers.proofs.cascade.CascadeKit.expand.Goals as goal
 
 pub returns-in_err-expand : goal.returns-in_err-expand

@@ -1,4 +1,4 @@
-use Rattle.std.proofs.Common.{◌≡◌, ◌+◌, ◌-◌, ◌≤◌, Ok, Err, sym, ap, ◌∙◌, ap₂, rules}
+use Rattle.std.proofs.Common.{◌-◌, ◌≤◌, Err, sym, ap, ◌∙◌, ap₂, rules}
 use Rattle.std.proofs.lemmas.Result.{err_from_is_err_and}
 use Rattle.kit.specs.Calls.{told}
 use Rattle.kit.proofs.Calls.{told_ok}

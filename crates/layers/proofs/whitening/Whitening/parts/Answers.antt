@@ -1,6 +1,6 @@
-use Rattle.std.proofs.Common.{◌≡◌, ◌-◌, ◌*◌, ◌≤◌, length, take, drop, sym, ap, ◌∙◌, ap₂, arith, rules}
+use Rattle.std.proofs.Common.{◌≡◌, ◌-◌, ◌*◌, ◌≤◌, length, take, drop, sym, ap, ◌∙◌, arith, rules}
 use Rattle.kit.proofs.Calls.{cipher_passes, told_ok}
-use Rattle.layers.specs.Whitened.{white, inner, block_a, block_b, need as whitened_need}
+use Rattle.layers.specs.Whitened.{inner, block_a, block_b, need as whitened_need}
 use Rattle.layers.specs.WhitensLemmas.{told_accepted, room}
 use Rattle.layers.proofs.whitening.Whitening.parts.Goals as goal
 

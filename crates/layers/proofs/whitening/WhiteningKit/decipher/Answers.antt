@@ -1,7 +1,7 @@
-use Rattle.std.proofs.Common.{◌≡◌, ℕ, ◌-◌, get_or, sym, ◌∙◌, arith, w8, Fits, rules}
+use Rattle.std.proofs.Common.{◌≡◌, ℕ, get_or, sym, ◌∙◌, arith, w8, Fits, rules}
 use Rattle.block.proofs.Parts.{bytes_from}
 use Rattle.kit.proofs.Calls.{sized_by, deciphered_fits}
-use Rattle.layers.specs.Whitened.{white, inner, block_a, block_b, dec, whitened}
+use Rattle.layers.specs.Whitened.{block_a, block_b, dec, whitened}
 use Rattle.layers.specs.WhitensLemmas.{fits_below, whole_a, whole_b, passes, comes_out}
 use Rattle.layers.proofs.whitening.WhiteningKit.decipher.Goals as goal
 

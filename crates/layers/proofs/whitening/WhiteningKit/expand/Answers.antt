@@ -1,11 +1,11 @@
-use Rattle.std.proofs.Common.{◌≡◌, ℕ, ◌-◌, ◌*◌, ◌≤◌, ◌++◌, length, sym, ap, ◌∙◌, arith, length-append, rules}
+use Rattle.std.proofs.Common.{◌≡◌, ℕ, ◌-◌, ◌*◌, ◌≤◌, ◌++◌, length, sym, ◌∙◌, arith, length-append, rules}
 use borrow.Rule.Slice.PartMut.{post_of}
 use Rattle.std.proofs.lemmas.List.{length-drop}
 use Rattle.layers.specs.JoinedLemmas.{same_rests}
 use Rattle.block.proofs.Parts.{bytes_from}
 use Rattle.kit.proofs.Calls.{expand_passes, expanded_fits, told_ok}
-use Rattle.layers.specs.Whitened.{white, whitened, need as whitened_need}
-use Rattle.layers.specs.WhitensLemmas.{told_accepted, room, expand_accepted, expanded_inner, length_inner, written}
+use Rattle.layers.specs.Whitened.{whitened, need as whitened_need}
+use Rattle.layers.specs.WhitensLemmas.{told_accepted, room, expand_accepted, expanded_inner, written}
 use Rattle.layers.proofs.whitening.WhiteningKit.expand.Goals as goal
 
 pub overflow_mul-cells : goal.overflow_mul-cells

@@ -1,7 +1,7 @@
 use Rattle.std.proofs.Common.{◌≡◌, ◌-◌, length, take, ap, ◌∙◌, arith, length-take, rules}
 use Rattle.std.proofs.lemmas.List.{take_at}
 use Rattle.kit.specs.Calls.{enciphered}
-use Rattle.link.proofs.block.pad_block.Goals as goal
+use Rattle.link.proofs.blocks.pad_block.Goals as goal
 
 pub returns : goal.returns
 returns g c =

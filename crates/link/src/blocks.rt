@@ -38,7 +38,7 @@ pub fn sealed_block<K: Kit>(
     width: usize,
 ) -> [u8; 32]
     requires { width ≤ 32 }
-    ensures { take width result ≡ enciphered (meaning kit.now) key schedule.now (join (take width text.now) (take width chain.now)) }
+    ensures { take width result ≡ enciphered (K.Kit.meaning kit.now) key schedule.now (join (take width text.now) (take width chain.now)) }
 {
     let mut block = *text;
     let part = &mut block[0..width];
@@ -57,7 +57,7 @@ pub fn opened_block<K: Kit>(
     width: usize,
 ) -> [u8; 32]
     requires { width ≤ 32 }
-    ensures { take width result ≡ part (deciphered (meaning kit.now) key schedule.now (take width held.now)) (take width chain.now) }
+    ensures { take width result ≡ part (deciphered (K.Kit.meaning kit.now) key schedule.now (take width held.now)) (take width chain.now) }
 {
     let mut block = *held;
     let text = &mut block[0..width];
@@ -75,7 +75,7 @@ pub fn pad_block<K: Kit>(
     width: usize,
 ) -> [u8; 32]
     requires { width ≤ 32 }
-    ensures { take width result ≡ enciphered (meaning kit.now) key schedule.now (take width chain.now) }
+    ensures { take width result ≡ enciphered (K.Kit.meaning kit.now) key schedule.now (take width chain.now) }
 {
     let mut block = *chain;
     let pad = &mut block[0..width];

@@ -2,7 +2,7 @@ use Rattle.std.proofs.Common.{◌≡◌, ◌-◌, length, take, ap, ◌∙◌, s
 use Rattle.std.proofs.lemmas.List.{take_at}
 use Rattle.kit.specs.Calls.{enciphered}
 use Rattle.modes.specs.Join.{join}
-use Rattle.link.proofs.block.sealed_block.Goals as goal
+use Rattle.link.proofs.blocks.sealed_block.Goals as goal
 
 pub returns : goal.returns
 returns g c =

@@ -2,7 +2,7 @@ use Rattle.std.proofs.Common.{◌≡◌, ◌-◌, length, take, ap, ◌∙◌, a
 use Rattle.std.proofs.lemmas.List.{take_at}
 use Rattle.kit.specs.Calls.{deciphered}
 use Rattle.modes.specs.Join.{part}
-use Rattle.link.proofs.block.opened_block.Goals as goal
+use Rattle.link.proofs.blocks.opened_block.Goals as goal
 
 pub returns : goal.returns
 returns g c =
