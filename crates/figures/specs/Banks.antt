@@ -1,6 +1,6 @@
 -- The worked figures of a bank of 41 cells and of its links. Assumes nothing.
 -- A row says what a definition that contracts cite gives at some values.
-use Rattle.std.specs.Prelude.{◌≡◌, ℕ, ◌-◌, List, [], ◌∷◌, length, replicate, Some, None, Ok, Err, Option, Result}
+use Rattle.std.specs.Prelude.{◌≡◌, ℕ, ◌-◌, List, [], ◌∷◌, length, replicate, Some, None, Ok, Option}
 use Rattle.mkv.specs.Versions.{mkv_128}
 use Rattle.refusal.specs.declared.Refusal.{Refusal}
 use Rattle.refusal.specs.declared.Refusal.TheVariants.{Cells, Ragged}
