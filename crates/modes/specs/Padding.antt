@@ -24,7 +24,7 @@ unfoldable pub text_end : List ℕ → Option ℕ
 text_end [] = None
 text_end (x ∷ xs) = or_here (text_end xs) (x == 0x80 && all_zero xs)
 
--- what text-end says of every block
+-- what text_end says of every block
 abbrev pub TextEnd : Option ℕ → List ℕ → Type 0
 TextEnd r block = MatchOption r ((text : List ℕ) → Unpadded block text → ⊥) (λ i. Unpadded block (take i block))
 

@@ -1,5 +1,5 @@
 -- Figures as people write them: which texts are one, and what each says. Assumes nothing.
--- Of std, `Numeral base ds`: one digit or more, and nothing else; `value base ds`: the number that they write.
+-- Of std, `IsNumeral base ds`: one digit or more, and nothing else; `digits_value base ds`: the number that they write.
 use Rattle.std.specs.Prelude.{◌≡◌, ℕ, ◌+◌, ◌-◌, ◌*◌, ◌^◌, ◌<◌, ◌≤◌, List, length, take, drop, slice_index_or}
 use Rattle.std.specs.Str.Parse.{IsNumeral, digits_value}
 

@@ -1,5 +1,5 @@
 -- What is written of a signal record, byte by byte. Assumes nothing.
--- Of std, `decimal n`: the digits of n; `glyph true d`: the hexadecimal digit d, in capitals.
+-- Of std, `decimal n`: the digits of n; `digit_glyph true d`: the hexadecimal digit d, in capitals.
 use Rattle.std.specs.Prelude.{ℕ, ◌/◌, ◌%◌, true, List, [], ◌∷◌, ◌++◌, codes, decimal}
 use Rattle.std.specs.Fmt.{digit_glyph}
 use Rattle.signal.specs.declared.record.SignalRecord.{SignalRecord}
