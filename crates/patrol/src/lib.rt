@@ -5,13 +5,13 @@
 
 mod board;
 mod calls;
+mod course;
 mod event;
-mod field;
 mod season;
 mod set;
 mod steps;
 
 pub use board::{Board, Listed};
+pub use course::Search;
 pub use event::Event;
-pub use field::Search;
 pub use season::HEADING;
