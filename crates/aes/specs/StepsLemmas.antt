@@ -50,9 +50,9 @@ pub length_moved : (from : ℕ → ℕ) (b : List ℕ) → length (moved from b)
 unfolding moved
 length_moved from b = length-map-range_with_len (λ i. slice_index b (from i)) 0 16
 
-pub get_d_moved : (from : ℕ → ℕ) (b : List ℕ) (i : ℕ) → i < 16 → slice_index (moved from b) i ≡ slice_index b (from i)
+pub get_or_moved : (from : ℕ → ℕ) (b : List ℕ) (i : ℕ) → i < 16 → slice_index (moved from b) i ≡ slice_index b (from i)
 unfolding moved
-get_d_moved from b i h = get_or-map-range_with_len (λ k. slice_index b (from k)) 0 16 i i 0 h (omega arith)
+get_or_moved from b i h = get_or-map-range_with_len (λ k. slice_index b (from k)) 0 16 i i 0 h (omega arith)
 
 pub block_moved : (from : ℕ → ℕ) (b : List ℕ) → Block 16 b → Block 16 (moved from b)
 unfolding moved
@@ -68,7 +68,7 @@ moved_back f g test b lb =
     sym (fill_by_all (λ i. slice_index (moved f b) (g i)) b 16 0 lb (λ i h.
     let t = at (order_test f g) 16 test i h in
     let inside : g i < 16 = ltb→lt (g i) 16 (both_left (nat_lt (g i) 16) (f (g i) == i) t) in
-    sym (get_d_moved f b (g i) inside ∙ ap (λ k. slice_index b k) (eqb→eq (f (g i)) i (both_right (nat_lt (g i) 16) (f (g i) == i) t)))))
+    sym (get_or_moved f b (g i) inside ∙ ap (λ k. slice_index b k) (eqb→eq (f (g i)) i (both_right (nat_lt (g i) 16) (f (g i) == i) t)))))
 
 left_test : T (below (order_test from_right from_left) 16)
 unfolding order_test

@@ -8,6 +8,7 @@ mod run;
 
 use options::{Options, Wrong};
 use run::Stop;
+use std::process::ExitCode;
 use std::{env, fs, io};
 
 const HELP: &str = "search FILE.. [--season PATH]
@@ -22,18 +23,27 @@ file, one line a record, to PATH; to standard output where no PATH is given.
 docs/FORMATS.md has the form of both files. A line that is none is told with its
 number and what was expected there; no season's file is written then.";
 
-fn main(rt: HostRuntime) -> Result<(), Stop> {
+fn main(rt: HostRuntime) -> ExitCode {
+    match start(&rt) {
+        Ok(()) => ExitCode::SUCCESS,
+        // what is wrong has been told
+        Err(_) => ExitCode::FAILURE,
+    }
+}
+
+// Does what the words after the program's name ask for.
+fn start(rt: &HostRuntime) -> Result<(), Stop> {
     let mut words = Vec::new(rt.alloc());
-    for word in env::args(&rt)?.skip(1) {
+    for word in env::args(rt)?.skip(1) {
         match words.push(word) {
             Ok(()) => {}
-            Err(_) => return wrong(&rt, Wrong::Memory),
+            Err(_) => return wrong(rt, Wrong::Memory),
         }
     }
     match Options::read(rt.alloc(), words.as_slice()) {
         Ok(options) if options.help => Ok(rt.println(HELP)?),
-        Ok(options) => all(&rt, &options),
-        Err(what) => wrong(&rt, what),
+        Ok(options) => all(rt, &options),
+        Err(what) => wrong(rt, what),
     }
 }
 

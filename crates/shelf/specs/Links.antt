@@ -19,7 +19,7 @@ Linked len c p = (c < 17) × (p < slice_index len c)
 abbrev pub Within : List ℕ → List ℕ → List ℕ → ℕ → Type 0
 Within next first len size = (c p : ℕ) → Linked len c p → cell_at next first c p < size
 
--- No cell stands at two places, w.1 of row w .0 and w.3 of row w .2. (A ghost field's type takes few binders, so the four numbers are one.)
+-- No cell stands at two places, w.1 of row w.0 and w.3 of row w.2. (A ghost field's type takes few binders, so the four numbers are one.)
 abbrev pub Apart : List ℕ → List ℕ → List ℕ → Type 0
 Apart next first len =
     (w : ℕ × ℕ × ℕ × ℕ) → Linked len w.0 w.1 × Linked len w.2 w.3 × (cell_at next first w.0 w.1 ≡ cell_at next first w.2 w.3) → (w.0 ≡ w.2) × (w.1 ≡ w.3)

@@ -1,7 +1,7 @@
 use Rattle.std.proofs.Common.{zero, replicate, sym, ◌∙◌, length-set}
 use Rattle.block.proofs.Loops.{over_more, over_whole}
 use Rattle.aes.specs.Steps.{moved, from_left, inv_shift_rows}
-use Rattle.aes.specs.StepsLemmas.{length_moved, get_d_moved}
+use Rattle.aes.specs.StepsLemmas.{length_moved, get_or_moved}
 use Rattle.aes.proofs.round.inv_shift_rows.Goals as goal
 
 pub loop-i-preserved : goal.loop-i-preserved
@@ -10,7 +10,7 @@ loop-i-preserved c =
     let i = c.loop-i.i in (
       length-set c.loop-i.shifted i _ ∙ c.loop-i.invariant.0,
       over_more (moved from_left b) (replicate 16 zero) c.loop-i.shifted i _ c.loop-i.invariant.1 c.loop-i-test.true (length_moved from_left b)
-          (sym (get_d_moved from_left b i c.loop-i-test.true)),
+          (sym (get_or_moved from_left b i c.loop-i-test.true)),
     )
 
 pub returns : goal.returns
