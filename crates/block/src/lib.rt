@@ -12,9 +12,18 @@ pub fn xor_into(block: &mut [u8], by: &[u8])
     ensures { block.new ≡ take (length block.old) (xor block.old by.now) }
 {
     let shared = block.len().min(by.len());
-    for i in 0..shared {
-        block[i] ^= by[i];
+    // Not `block.iter_mut().zip(by)`: after an adapter of `iter_mut` no proof knows what was written.
+    for (i, y) in by[..shared].iter().enumerate() {
+        block[i] ^= *y;
     }
+}
+
+// XORs `by` into a block of its length.
+pub fn xor_whole(block: &mut [u8], by: &[u8])
+    requires { length block.old ≡ length by.now }
+    ensures { block.new ≡ xor block.old by.now }
+{
+    xor_into(block, by);
 }
 
 // Replaces each byte of `block` by the one that stands at its number in `table`.

@@ -1,22 +1,15 @@
-use Rattle.std.proofs.Common.{◌+◌, drop, sym, ap, ◌∙◌, arith}
-use lib.Bits.{bit_xor, xor_assoc, xor_zero_r}
-use Rattle.field.specs.Matrix.{dot}
-use Rattle.field.proofs.Matrices.{dot_more, dot_all}
+use Rattle.std.proofs.Common.{◌∙◌, rules, tests}
+use Rattle.std.proofs.lemmas.Iterator.{YieldsList-from_slice, YieldsList-from_zip}
+use Rattle.std.proofs.lemmas.Iterator.Consumers.{fold_from_yields_List}
+use lib.Bits.{xor_zero_l}
+use Rattle.field.specs.Matrix.{dot as inner}
+use Rattle.field.proofs.Rows.{added, fold_dot}
 use Rattle.field.proofs.dot.Goals as goal
-
-pub loop-i-preserved : goal.loop-i-preserved
-loop-i-preserved c =
-    let p = c.args.poly in
-    let xs = c.args.row.now in
-    let ys = c.args.v.now in
-    let l = c.loop-i in
-    let m = dot p (drop (l.i + 1) xs) (drop (l.i + 1) ys) in
-    xor_assoc l.sum c.mul-sum.result m
-    ∙ ap (bit_xor l.sum) (ap (λ n. bit_xor n m) c.mul-sum.ensures ∙ sym (dot_more p xs ys l.i (omega arith) (omega arith)))
-    ∙ l.invariant
 
 pub returns : goal.returns
 returns c =
-    let l = c.loop-i in
-    sym (ap (bit_xor l.sum) (dot_all c.args.poly c.args.row.now c.args.v.now l.i (omega arith)) ∙ xor_zero_r l.sum)
-    ∙ l.invariant
+    let p = c.args.poly in
+    let row = c.args.row.now in
+    let v = c.args.v.now in
+    fold_from_yields_List _ (added p) 0 c.fold.result c.fold.ensures.ran (YieldsList-from_zip (YieldsList-from_slice row cc) (YieldsList-from_slice v cc)) (λ a x b q h. search (rules, tests))
+    ∙ (fold_dot p 0 row v ∙ xor_zero_l (inner p row v))
