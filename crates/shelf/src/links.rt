@@ -5,11 +5,13 @@ ghost use Rattle.shelf.specs.Items.{Without};
 ghost use Rattle.shelf.specs.Calls.{Sizing, Empty, Emptied};
 
 use super::book::ChainBook;
+use super::cells::Cells;
 use refusal::Refusal;
+use std::array;
 
 pub(super) const CHAINS: usize = 16;
 
-pub(super) const MOST_CELLS: usize = 256;
+const MOST_CELLS: u16 = 256;
 
 const FREE: usize = 16;
 
@@ -17,11 +19,7 @@ const FREE: usize = 16;
 fn line() -> [u8; 256]
     ensures { (k : ℕ) → k < 255 → slice_index result k ≡ k + 1 }
 {
-    let mut next = [0u8; 256];
-    for i in 0..255u8 {
-        next[i as usize] = i + 1;
-    }
-    next
+    array::from_fn(|cell| (cell.wrapping_add(1) % 256) as u8)
 }
 
 impl ChainBook {
@@ -43,20 +41,16 @@ impl ChainBook {
         ensures outcome { Sizing (standing self.old) n result (standing self.new) }
         ensures kept { is_err result ≡ true → self.new ≡ self.old }
     {
-        if n < 1 {
-            return Err(Refusal::Size);
+        match u16::try_from(n) {
+            Ok(size @ 1..=MOST_CELLS) if self.size == 0 => {
+                self.next = line();
+                self.first[FREE] = 0;
+                self.len[FREE] = size;
+                self.size = size;
+                Ok(())
+            }
+            _ => Err(Refusal::Size),
         }
-        if n > MOST_CELLS {
-            return Err(Refusal::Size);
-        }
-        if self.size != 0 {
-            return Err(Refusal::Size);
-        }
-        self.next = line();
-        self.first[FREE] = 0;
-        self.len[FREE] = n as u16;
-        self.size = n as u16;
-        Ok(())
     }
 
     // How many cells are free.
@@ -64,7 +58,7 @@ impl ChainBook {
         ensures cells { result ≡ free_cells (standing self.now) }
         ensures row { result ≡ slice_index self.now.len 16 }
     {
-        self.len[FREE] as usize
+        usize::from(self.len[FREE])
     }
 
     // How many cells a chain has.
@@ -73,22 +67,19 @@ impl ChainBook {
         ensures cells { result ≡ length (places self.now chain) }
         ensures row { result ≡ slice_index self.now.len chain }
     {
-        self.len[chain] as usize
+        usize::from(self.len[chain])
     }
 
-    // Where a chain that has cells begins.
-    pub(super) fn start(&self, chain: usize) -> u8
+    // The cells of a chain, in order.
+    pub(super) fn chain(&self, chain: usize) -> Cells<'_>
         requires { chain < 16 }
-        ensures { result ≡ slice_index self.now.first chain }
+        ensures { result ≡ places self.now chain }
     {
-        self.first[chain]
-    }
-
-    // The cell that a cell is linked to.
-    pub(super) fn after(&self, cell: u8) -> u8
-        ensures { result ≡ slice_index self.now.next cell }
-    {
-        self.next[cell as usize]
+        Cells {
+            next: &self.next,
+            cell: self.first[chain],
+            left: self.len[chain],
+        }
     }
 
     // Moves the first free cell to the end of a chain, and names it.
@@ -115,21 +106,8 @@ impl ChainBook {
         cell as usize
     }
 
-    // The cell at a position of a chain.
-    pub(super) fn cell_at(&self, chain: usize, position: usize) -> usize
-        requires { (chain < 16) × (position < slice_index self.now.len chain) }
-        ensures place { result ≡ slice_index (places self.now chain) position }
-        ensures within { result < self.now.size }
-    {
-        let mut cell = self.first[chain];
-        for i in 0..position {
-            cell = self.next[cell as usize];
-        }
-        cell as usize
-    }
-
     // Hands the cells of a chain that has some back to the free ones.
-    fn unlink(&mut self, chain: usize)
+    pub(super) fn unlink(&mut self, chain: usize)
         requires { (chain < 16) × (0 < slice_index self.old.len chain) }
         ensures { Emptied (standing self.old) chain (standing self.new) }
     {
@@ -138,15 +116,5 @@ impl ChainBook {
         self.first[FREE] = self.first[chain];
         self.len[FREE] += n;
         self.len[chain] = 0;
-    }
-
-    // Empties a chain.
-    pub(super) fn clear(&mut self, chain: usize)
-        requires { chain < 16 }
-        ensures { Emptied (standing self.old) chain (standing self.new) }
-    {
-        if self.len[chain] > 0 {
-            self.unlink(chain);
-        }
     }
 }

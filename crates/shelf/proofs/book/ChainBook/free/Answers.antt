@@ -1,6 +1,6 @@
-use Rattle.std.proofs.Common.{refl, arith}
+use Rattle.std.proofs.Common.{◌∙◌, arith}
 use Rattle.shelf.proofs.Totals.{free_is}
 use Rattle.shelf.proofs.book.ChainBook.free.Goals as goal
 
-pub returns : goal.returns
-returns c = record { cells = free_is c.args.self.now (omega arith); row = refl }
+pub returns-clause-cells : goal.returns-clause-cells
+returns-clause-cells c = c.from.ensures ∙ free_is c.args.self.now (omega arith)
