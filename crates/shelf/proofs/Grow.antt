@@ -3,7 +3,7 @@ use Rattle.std.proofs.Common.{◌≡◌, ℕ, zero, suc, ◌+◌, ◌<◌, List,
 use Rattle.std.specs.List.{range_with_len}
 use Rattle.std.proofs.lemmas.List.{append-nil, length_push, length-set}
 use Rattle.std.proofs.lemmas.Bool.{cases_eq}
-use Rattle.shelf.specs.Links.{cell_at}
+use Rattle.shelf.specs.Links.{firsts, lens, cell_at}
 use Rattle.shelf.specs.Standing.{Standing, places}
 use Rattle.shelf.specs.Items.{pick, items_at, list, Without, Below}
 use Rattle.shelf.specs.Calls.{Grown}
@@ -18,7 +18,7 @@ below_counted f m (suc n) a low =
 
 -- a book's cells lie within its number of cells
 pub below_places : (b : ChainBook) (c : ℕ) → c < 17 → Below b.size (places b c)
-below_places b c h = below_counted (cell_at b.next b.first c) b.size (get_or b.len c 0) 0 (λ p k. b.within c (0 + p) (h, omega arith))
+below_places b c h = below_counted (cell_at b.next (firsts b.rows) c) b.size (get_or (lens b.rows) c 0) 0 (λ p k. b.within c (0 + p) (h, omega arith))
 
 -- and so within the memory that has as many items
 pub below_memory : (b : ChainBook) (c n : ℕ) → c < 16 → n ≡ b.size → Below n (places b c)

@@ -2,6 +2,17 @@
 -- The chain book keeps these facts in its type; no promise to a caller speaks of them. Assumes nothing.
 use Rattle.std.specs.Prelude.{◌≡◌, ℕ, zero, suc, ◌+◌, ◌<◌, List, map, slice_index}
 use Rattle.std.specs.List.{range_with_len}
+use Rattle.shelf.specs.declared.book.Row.{Row}
+
+-- what each row says of its first cell, its last cell and its length
+abbrev pub firsts : List Row → List ℕ
+firsts rows = map (λ r. r.first) rows
+
+abbrev pub lasts : List Row → List ℕ
+lasts rows = map (λ r. r.last) rows
+
+abbrev pub lens : List Row → List ℕ
+lens rows = map (λ r. r.len) rows
 
 -- the cell that lies p links after cell a
 abbrev pub step : List ℕ → ℕ → ℕ → ℕ

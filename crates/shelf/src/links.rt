@@ -4,7 +4,7 @@ ghost use Rattle.shelf.specs.Standing.{standing, places, free as free_cells};
 ghost use Rattle.shelf.specs.Items.{Without};
 ghost use Rattle.shelf.specs.Calls.{Sizing, Empty, Emptied};
 
-use super::book::ChainBook;
+use super::book::{ChainBook, Row};
 use super::cells::Cells;
 use refusal::Refusal;
 use std::array;
@@ -14,6 +14,12 @@ pub(super) const CHAINS: usize = 16;
 const MOST_CELLS: u16 = 256;
 
 const FREE: usize = 16;
+
+const EMPTY: Row = Row {
+    first: 0,
+    last: 0,
+    len: 0,
+};
 
 // Each cell linked to the one after it.
 fn line() -> [u8; 256]
@@ -30,9 +36,7 @@ impl ChainBook {
         ChainBook {
             size: 0,
             next: [0; 256],
-            first: [0; 17],
-            last: [0; 16],
-            len: [0; 17],
+            rows: [EMPTY; 17],
         }
     }
 
@@ -44,8 +48,7 @@ impl ChainBook {
         match u16::try_from(n) {
             Ok(size @ 1..=MOST_CELLS) if self.size == 0 => {
                 self.next = line();
-                self.first[FREE] = 0;
-                self.len[FREE] = size;
+                self.rows[FREE] = Row { len: size, ..EMPTY };
                 self.size = size;
                 Ok(())
             }
@@ -55,19 +58,17 @@ impl ChainBook {
 
     // How many cells are free.
     pub(super) fn free(&self) -> usize
-        ensures cells { result ≡ free_cells (standing self.now) }
-        ensures row { result ≡ slice_index self.now.len 16 }
+        ensures { result ≡ free_cells (standing self.now) }
     {
-        usize::from(self.len[FREE])
+        usize::from(self.rows[FREE].len)
     }
 
     // How many cells a chain has.
     pub(super) fn count(&self, chain: usize) -> usize
         requires { chain < 16 }
-        ensures cells { result ≡ length (places self.now chain) }
-        ensures row { result ≡ slice_index self.now.len chain }
+        ensures { result ≡ length (places self.now chain) }
     {
-        usize::from(self.len[chain])
+        usize::from(self.rows[chain].len)
     }
 
     // The cells of a chain, in order.
@@ -75,46 +76,59 @@ impl ChainBook {
         requires { chain < 16 }
         ensures { result ≡ places self.now chain }
     {
+        let row = self.rows[chain];
         Cells {
             next: &self.next,
-            cell: self.first[chain],
-            left: self.len[chain],
+            cell: row.first,
+            left: row.len,
         }
     }
 
     // Moves the first free cell to the end of a chain, and names it.
     pub(super) fn link(&mut self, chain: usize) -> usize
-        requires { (chain < 16) × (0 < slice_index self.old.len 16) }
+        requires { (chain < 16) × (0 < free_cells (standing self.old)) }
         ensures sized { self.new.size ≡ self.old.size }
         ensures within { result < self.old.size }
-        ensures free { slice_index self.new.len 16 + 1 ≡ slice_index self.old.len 16 }
+        ensures free { free_cells (standing self.new) + 1 ≡ free_cells (standing self.old) }
         ensures added { places self.new chain ≡ places self.old chain ++ (result ∷ []) }
         ensures others { (d : ℕ) → d < 16 → (d ≢ chain) → places self.new d ≡ places self.old d }
         ensures fresh { (d : ℕ) → d < 16 → Without result (places self.old d) }
     {
-        let cell = self.first[FREE];
-        let n = self.len[chain];
-        self.first[FREE] = self.next[cell as usize];
-        self.len[FREE] -= 1;
-        if n == 0 {
-            self.first[chain] = cell;
+        let free = self.rows[FREE];
+        let row = self.rows[chain];
+        let cell = free.first;
+        self.rows[FREE] = Row {
+            first: self.next[cell as usize],
+            len: free.len - 1,
+            ..free
+        };
+        let first = if row.len == 0 {
+            cell
         } else {
-            self.next[self.last[chain] as usize] = cell;
-        }
-        self.last[chain] = cell;
-        self.len[chain] = n + 1;
+            self.next[row.last as usize] = cell;
+            row.first
+        };
+        self.rows[chain] = Row {
+            first,
+            last: cell,
+            len: row.len + 1,
+        };
         cell as usize
     }
 
     // Hands the cells of a chain that has some back to the free ones.
     pub(super) fn unlink(&mut self, chain: usize)
-        requires { (chain < 16) × (0 < slice_index self.old.len chain) }
+        requires { (chain < 16) × (0 < length (places self.old chain)) }
         ensures { Emptied (standing self.old) chain (standing self.new) }
     {
-        let n = self.len[chain];
-        self.next[self.last[chain] as usize] = self.first[FREE];
-        self.first[FREE] = self.first[chain];
-        self.len[FREE] += n;
-        self.len[chain] = 0;
+        let free = self.rows[FREE];
+        let row = self.rows[chain];
+        self.next[row.last as usize] = free.first;
+        self.rows[FREE] = Row {
+            first: row.first,
+            len: free.len + row.len,
+            ..free
+        };
+        self.rows[chain] = Row { len: 0, ..row };
     }
 }

@@ -12,7 +12,7 @@ use Rattle.shelf.proofs.Walks.{turn, ended}
 use Rattle.shelf.proofs.keys.Shelf+KeyCell.gather_bytes.Goals as goal
 
 pub overflow_mul-due : goal.overflow_mul-due
-overflow_mul-due c = omega (arith, c.count-count.ensures.cells, places_few c.args.self.now.book c.args.chain)
+overflow_mul-due c = omega (arith, c.count-count.ensures, places_few c.args.self.now.book c.args.chain)
 
 pub loop-i-init : goal.loop-i-init
 loop-i-init c = (sym joined_none, refl)
@@ -37,7 +37,7 @@ loop-i-preserved c =
     let n = length c.loop-i.yielded in
     let t = turn ks (cc) (cc) c.loop-i.yielded _ c.loop-i.yielded_by _ c.in-Some.is c.next.ensures.steps in
     let x = c.copy_from_slice.new.self in
-    let room : 16 * n + 16 ≤ length out = omega (arith, t.0, c.count-count.ensures.cells) in
+    let room : 16 * n + 16 ≤ length out = omega (arith, t.0, c.count-count.ensures) in
     let wide : length x ≡ 16 = omega (arith, c.copy_from_slice.ensures.len, length-between out (16 * c.in-Some.i) (16 * c.in-Some.i + 16) (omega (arith, room, t.1))) in
     let within : c.in-Some.cell < length cells = omega (arith, t.2, in_memory b c.args.chain (length cells) _ ok.0 ok.1 t.0) in
     let read : x ≡ get_or cells (get_or ks n 0) x = c.copy_from_slice.ensures.after ∙ get_or_default cells c.in-Some.cell [] x within ∙ ap (λ k. get_or cells k x) t.2 in
@@ -52,8 +52,8 @@ returns c =
     let ks = places b c.args.chain in
     let n = length c.loop-i.yielded in
     let all : n ≡ length ks = ended ks (cc) (cc) c.loop-i.yielded _ c.loop-i.yielded_by _ c.in-None.is c.next.ensures.steps in
-    let due : n ≡ c.count-count.result = omega (arith, all, c.count-count.ensures.cells) in
+    let due : n ≡ c.count-count.result = omega (arith, all, c.count-count.ensures) in
     record {
-      told = third_clear ok.0 ok.1 _ _ (le-ltb (length c.args.out.now) (16 * length ks) (omega (arith, c.count-count.ensures.cells)));
-      holds = (ap (λ m. 16 * m) c.count-count.ensures.cells, rw due at (bytes_all cells ks c.args.out.now c.loop-i.out n all c.loop-i.invariant));
+      told = third_clear ok.0 ok.1 _ _ (le-ltb (length c.args.out.now) (16 * length ks) (omega (arith, c.count-count.ensures)));
+      holds = (ap (λ m. 16 * m) c.count-count.ensures, rw due at (bytes_all cells ks c.args.out.now c.loop-i.out n all c.loop-i.invariant));
     }

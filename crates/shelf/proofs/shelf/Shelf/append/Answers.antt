@@ -18,7 +18,7 @@ pub loop-item-init : goal.loop-item-init
 loop-item-init g c = (grown_none (standing c.args.self.now.book) c.args.cells.now c.args.chain, omega arith)
 
 pub link-cell-requires : goal.link-cell-requires
-link-cell-requires g c = ((admitted c.args.self.now.book.size (length c.args.cells.now) c.args.chain c.in_ok-admit.ensures).0, omega (arith, c.loop-item.invariant.1, c.free.ensures.row))
+link-cell-requires g c = ((admitted c.args.self.now.book.size (length c.args.cells.now) c.args.chain c.in_ok-admit.ensures).0, omega (arith, c.loop-item.invariant.1, c.free.ensures))
 
 pub loop-item-preserved : goal.loop-item-preserved
 loop-item-preserved g c =
@@ -40,7 +40,7 @@ returns-clause-outcome g c =
     let ok = admitted b.size (length c.args.cells.now) c.args.chain c.in_ok-admit.ensures in
     let items = c.args.items.now in
     record {
-      told = third_clear ok.0 ok.1 _ _ (le-ltb (free (standing b)) (length items) (omega (arith, c.free.ensures.cells)));
+      told = third_clear ok.0 ok.1 _ _ (le-ltb (free (standing b)) (length items) (omega (arith, c.free.ensures)));
       holds = rw (take_all c.loop-item.item-index items (omega arith)) at c.loop-item.invariant.0;
     }
 

@@ -1,5 +1,5 @@
-use Rattle.std.proofs.Common.{◌≡◌, ◌+◌, take, get_or}
-use Rattle.shelf.specs.Standing.{standing}
+use Rattle.std.proofs.Common.{◌≡◌, ◌+◌, take}
+use Rattle.shelf.specs.Standing.{standing, free}
 use Rattle.shelf.specs.Calls.{Grown}
 use Rattle.shelf.proofs.shelf.Shelf.append.Given as goal
 
@@ -7,4 +7,4 @@ use Rattle.shelf.proofs.shelf.Shelf.append.Given as goal
 abbrev pub invariant-loop-item : goal.invariant-loop-item
 invariant-loop-item g l =
     Grown (standing l.initial.self.book) l.initial.cells l.chain (take l.item-index l.items) (standing l.self.book) l.cells
-    × (get_or l.self.book.len 16 0 + l.item-index ≡ get_or l.initial.self.book.len 16 0)
+    × (free (standing l.self.book) + l.item-index ≡ free (standing l.initial.self.book))
