@@ -9,7 +9,7 @@ use Rattle.shelf.specs.Standing.{standing, places, total, free}
 use Rattle.shelf.specs.declared.book.ChainBook.{ChainBook}
 use Rattle.shelf.specs.declared.book.Row.{Row}
 use Rattle.shelf.proofs.Totals.{row, free_of, free_is}
-use Rattle.shelf.proofs.Link.{Ready, ready_of, Came, linked_len, came_empty, came_more, linked_sum, linked_free, linked_within, linked_separate, linked_ends, linked_others, linked_added, linked_fresh}
+use Rattle.shelf.proofs.Link.{Ready, ready_of, ins, end_is, Came, linked_len, came_empty, came_more, linked_sum, linked_free, linked_within, linked_separate, linked_ends, linked_others, linked_added, linked_fresh}
 use Rattle.shelf.proofs.Unlink.{freed_len, freed_sum, freed_within, freed_separate, freed_ends, freed_others, freed_empty}
 use Rattle.shelf.proofs.Fresh.{fresh_sum, fresh_within, fresh_apart, fresh_ends, fresh_empty}
 
@@ -111,12 +111,12 @@ module _ (b : ChainBook) (chain : ℕ) (low : chain < 16) (long : (length b.next
     pub link_within : f.first < b.size
     link_within = omega (arith, first_at b.rows 16, b.within 16 0 (omega arith, some))
 
-    pub link_fresh : (d : ℕ) → d < 16 → Without f.first (places b d)
-    link_fresh d h = let P : ℕ → Type 0 = λ x. Without x (places b d) in subst P (sym (first_at b.rows 16)) (linked_fresh ready some d h)
+    pub link_fresh : (cell : ℕ) → cell ≡ f.first → (d : ℕ) → d < 16 → Without cell (places b d)
+    link_fresh cell named d h = let P : ℕ → Type 0 = λ x. Without x (places b d) in subst P (sym (named ∙ first_at b.rows 16)) (linked_fresh ready some d h)
 
-  module _ (some : 0 < get_or N 16 0) (next' : List ℕ) (first : ℕ) where
+  module _ (some : 0 < get_or N 16 0) (next' : List ℕ) (first cell : ℕ) (named : cell ≡ f.first) where
     abbrev rows₁ : List Row
-    rows₁ = set (set b.rows 16 (record { first = get_or b.next f.first 0; last = f.last; len = f.len - 1 })) chain (record { first = first; last = f.first; len = r.len + 1 })
+    rows₁ = set (set b.rows 16 (record { first = get_or b.next cell 0; last = f.last; len = f.len - 1 })) chain (record { first = first; last = f.first; len = r.len + 1 })
 
     lens₁ : lens rows₁ ≡ linked_len N chain
     lens₁ = two_set (λ r. r.len) b.rows 16 chain _ _ ∙ ap₂ (λ x y. set (set N 16 (x - 1)) chain (y + 1)) (len_at b.rows 16) (len_at b.rows chain)
@@ -127,7 +127,7 @@ module _ (b : ChainBook) (chain : ℕ) (low : chain < 16) (long : (length b.next
         ∙ ap (λ xs. set xs chain (get_or F 16 0)) (set-get_or L 16 0)
 
     firsts₁ : firsts rows₁ ≡ set (set F 16 (get_or b.next (get_or F 16 0) 0)) chain first
-    firsts₁ = two_set (λ r. r.first) b.rows 16 chain _ _ ∙ ap (λ x. set (set F 16 (get_or b.next x 0)) chain first) (first_at b.rows 16)
+    firsts₁ = two_set (λ r. r.first) b.rows 16 chain _ _ ∙ ap (λ x. set (set F 16 (get_or b.next x 0)) chain first) (named ∙ first_at b.rows 16)
 
     came : Ways b chain next' first → Came b.next F N next' (firsts rows₁) chain
     came (inl w) =
@@ -150,9 +150,9 @@ module _ (b : ChainBook) (chain : ℕ) (low : chain < 16) (long : (length b.next
           ends = linked_ends ready some next' (firsts rows₁) (came w);
         })
 
-    pub link_added : Ways b chain next' first → row next' (firsts rows₁) (lens rows₁) chain ≡ places b chain ++ (f.first ∷ [])
+    pub link_added : Ways b chain next' first → row next' (firsts rows₁) (lens rows₁) chain ≡ places b chain ++ (cell ∷ [])
     link_added w =
-        ap (λ n. row next' (firsts rows₁) n chain) lens₁ ∙ linked_added ready some next' (firsts rows₁) (came w) ∙ ap (λ x. places b chain ++ (x ∷ [])) (sym (first_at b.rows 16))
+        ap (λ n. row next' (firsts rows₁) n chain) lens₁ ∙ linked_added ready some next' (firsts rows₁) (came w) ∙ ap (λ x. places b chain ++ (x ∷ [])) (sym (named ∙ first_at b.rows 16))
 
     pub link_others : Ways b chain next' first → (d : ℕ) → d < 16 → (d ≡ chain → ⊥) → row next' (firsts rows₁) (lens rows₁) d ≡ places b d
     link_others w d h z = ap (λ n. row next' (firsts rows₁) n d) lens₁ ∙ linked_others ready some next' (firsts rows₁) (came w) d h z
@@ -164,15 +164,18 @@ module _ (b : ChainBook) (chain : ℕ) (low : chain < 16) (long : (length b.next
 
   -- ---- a chain has gone to the front of the free cells
 
-  module _ (any : 0 < get_or N chain 0) where
+  pub unlink_within : 0 < get_or N chain 0 → r.last < b.size
+  unlink_within any = omega (arith, last_at b.rows chain, end_is ready any, ins ready chain (get_or N chain 0 - 1) (omega arith) (omega arith))
+
+  module _ (any : 0 < get_or N chain 0) (last : ℕ) (named : last ≡ r.last) where
     abbrev next₂ : List ℕ
-    next₂ = set b.next r.last f.first
+    next₂ = set b.next last f.first
 
     abbrev rows₂ : List Row
     rows₂ = set (set b.rows 16 (record { first = r.first; last = f.last; len = f.len + r.len })) chain (record { first = r.first; last = r.last; len = 0 })
 
     next_is : next₂ ≡ set b.next (get_or L chain 0) (get_or F 16 0)
-    next_is = ap₂ (set b.next) (last_at b.rows chain) (first_at b.rows 16)
+    next_is = ap₂ (set b.next) (named ∙ last_at b.rows chain) (first_at b.rows 16)
 
     lens₂ : lens rows₂ ≡ freed_len N chain
     lens₂ = two_set (λ r. r.len) b.rows 16 chain _ _ ∙ ap₂ (λ x y. set (set N 16 (x + y)) chain 0) (len_at b.rows 16) (len_at b.rows chain)

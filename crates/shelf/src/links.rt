@@ -96,24 +96,24 @@ impl ChainBook {
     {
         let free = self.rows[FREE];
         let row = self.rows[chain];
-        let cell = free.first;
+        let cell = usize::from(free.first);
         self.rows[FREE] = Row {
-            first: self.next[cell as usize],
+            first: self.next[cell],
             len: free.len - 1,
             ..free
         };
         let first = if row.len == 0 {
-            cell
+            free.first
         } else {
-            self.next[row.last as usize] = cell;
+            self.next[usize::from(row.last)] = free.first;
             row.first
         };
         self.rows[chain] = Row {
             first,
-            last: cell,
+            last: free.first,
             len: row.len + 1,
         };
-        cell as usize
+        cell
     }
 
     // Hands the cells of a chain that has some back to the free ones.
@@ -123,7 +123,7 @@ impl ChainBook {
     {
         let free = self.rows[FREE];
         let row = self.rows[chain];
-        self.next[row.last as usize] = free.first;
+        self.next[usize::from(row.last)] = free.first;
         self.rows[FREE] = Row {
             first: row.first,
             len: free.len + row.len,
