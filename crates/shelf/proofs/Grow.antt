@@ -3,12 +3,12 @@ use Rattle.std.proofs.Common.{◌≡◌, ℕ, zero, suc, ◌+◌, ◌<◌, List,
 use Rattle.std.specs.List.{range_with_len}
 use Rattle.std.proofs.lemmas.List.{append-nil, length_push, length-set}
 use Rattle.std.proofs.lemmas.Bool.{cases_eq}
-use Rattle.shelf.specs.Links.{cell_at}
+use Rattle.shelf.specs.Links.{firsts, lens, cell_at}
 use Rattle.shelf.specs.Standing.{Standing, places}
 use Rattle.shelf.specs.Items.{pick, items_at, list, Without, Below}
 use Rattle.shelf.specs.Calls.{Grown}
 use Rattle.shelf.specs.declared.book.ChainBook.{ChainBook}
-use Rattle.shelf.proofs.Pick.{without_left, without_right, disjoint_push, distinct_push, below_append, pick_other, pick_same, items_append, items_other}
+use Rattle.shelf.proofs.Pick.{without_left, without_right, disjoint_push, distinct_push, below_append, below_at, pick_other, pick_same, items_append, items_other}
 
 below_counted : (f : ℕ → ℕ) (m n a : ℕ) → ((p : ℕ) → p < n → f (a + p) < m) → Below m (map f (range_with_len a n))
 below_counted f m zero a low = tt
@@ -18,7 +18,14 @@ below_counted f m (suc n) a low =
 
 -- a book's cells lie within its number of cells
 pub below_places : (b : ChainBook) (c : ℕ) → c < 17 → Below b.size (places b c)
-below_places b c h = below_counted (cell_at b.next b.first c) b.size (get_or b.len c 0) 0 (λ p k. b.within c (0 + p) (h, omega arith))
+below_places b c h = below_counted (cell_at b.next (firsts b.rows) c) b.size (get_or (lens b.rows) c 0) 0 (λ p k. b.within c (0 + p) (h, omega arith))
+
+-- and so within the memory that has as many items
+pub below_memory : (b : ChainBook) (c n : ℕ) → c < 16 → n ≡ b.size → Below n (places b c)
+below_memory b c n low whole = rw whole (below_places b c (omega arith))
+
+pub in_memory : (b : ChainBook) (c n p : ℕ) → c < 16 → n ≡ b.size → p < length (places b c) → get_or (places b c) p 0 < n
+in_memory b c n p low whole here = below_at n (places b c) p (below_memory b c n low whole) here
 
 -- what linking one cell r to chain c does
 pub record Linking (s s' : Standing) (c r : ℕ) : Type 0 where

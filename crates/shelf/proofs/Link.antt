@@ -1,11 +1,11 @@
 -- The first free cell goes to the end of a chain: what the tables then say. Assumes nothing.
 use Rattle.std.proofs.Common.{◌≡◌, ℕ, suc, ◌+◌, ◌-◌, ◌<◌, ◌≤◌, List, [], ◌∷◌, ◌++◌, map, length, get_or, set, sum, sym, ap, ◌∙◌, inl, inr, arith, get_or-set_other, get_or-set_same}
 use Rattle.std.specs.List.{range_with_len}
-use Rattle.std.proofs.lemmas.List.{length-set}
+use Rattle.std.proofs.lemmas.List.{length-set, length-map}
 use Rattle.std.proofs.lemmas.List.Sums.{sum_by-set}
 use Rattle.std.proofs.lemmas.Bool.{cases_eq, cases_lt}
 use Rattle.std.proofs.lemmas.List.FromFn.{map-range_with_len_more}
-use Rattle.shelf.specs.Links.{step, cell_at, Within, Apart, Ends}
+use Rattle.shelf.specs.Links.{firsts, lasts, lens, step, cell_at, Within, Apart, Ends}
 use Rattle.shelf.specs.Items.{Without}
 use Rattle.shelf.specs.declared.book.ChainBook.{ChainBook}
 use Rattle.shelf.proofs.Rows.{Separate, Inside, LinkedFrom, moved, shifted, kept, linked_inside, linked_apart}
@@ -24,16 +24,26 @@ pub record Ready (next first last len : List ℕ) (size chain : ℕ) : Type 0 wh
   pub low : chain < 16
   pub wide : length next ≡ 256
   pub f17 : length first ≡ 17
-  pub l16 : length last ≡ 16
+  pub l17 : length last ≡ 17
   pub n17 : length len ≡ 17
   pub few : size ≤ 256
   pub within : Within next first len size
   pub apart : Apart next first len
   pub ends : Ends next first last len
 
-pub ready_of : (b : ChainBook) (chain : ℕ) → chain < 16 → (length b.next ≡ 256) × (length b.first ≡ 17) × (length b.last ≡ 16) × (length b.len ≡ 17) → Ready b.next b.first b.last b.len b.size chain
+pub ready_of : (b : ChainBook) (chain : ℕ) → chain < 16 → (length b.next ≡ 256) × (length b.rows ≡ 17) → Ready b.next (firsts b.rows) (lasts b.rows) (lens b.rows) b.size chain
 ready_of b chain low long =
-    record { low = low; wide = long.0; f17 = long.1; l16 = long.2; n17 = long.3; few = b.few; within = b.within; apart = b.apart; ends = b.ends }
+    record {
+      low = low;
+      wide = long.0;
+      f17 = length-map b.rows (λ r. r.first) ∙ long.1;
+      l17 = length-map b.rows (λ r. r.last) ∙ long.1;
+      n17 = length-map b.rows (λ r. r.len) ∙ long.1;
+      few = b.few;
+      within = b.within;
+      apart = b.apart;
+      ends = b.ends;
+    }
 
 module _ {next first last len : List ℕ} {size chain : ℕ} (r : Ready next first last len size chain) where
   pub sep : Separate (cell_at next first) (λ c. get_or len c 0)

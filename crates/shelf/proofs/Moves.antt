@@ -1,13 +1,21 @@
 -- Steps along changed links. Assumes nothing.
-use Rattle.std.proofs.Common.{◌≡◌, ℕ, zero, suc, ◌+◌, ◌<◌, List, ◌∷◌, map, get_or, set, refl, ap, ◌∙◌, ap₂, add-zero, add-suc, add-one, arith, get_or-set_other}
+use Rattle.std.proofs.Common.{◌≡◌, ℕ, zero, suc, ◌+◌, ◌<◌, List, ◌∷◌, map, get_or, set, sym, refl, ap, ◌∙◌, ap₂, add-zero, add-suc, add-one, arith, get_or-set_other}
 use Rattle.std.specs.List.{range_with_len}
 use Rattle.shelf.specs.Items.{Without}
-use Rattle.shelf.specs.Links.{step}
+use Rattle.shelf.specs.Links.{step, run}
 
 -- one link on from the start is one link on at the end
 pub step_shift : (next : List ℕ) (a p : ℕ) → step next (get_or next a 0) p ≡ step next a (p + 1)
 step_shift next a zero = refl
 step_shift next a (suc p) = ap (λ k. get_or next k 0) (step_shift next a p) ∙ simp add-one
+
+-- a run begins with its first cell, and goes on one link later
+pub run_more : (next : List ℕ) (a n : ℕ) → run next a (n + 1) ≡ a ∷ run next (get_or next a 0) n
+run_more next a n = ap (run next a) (add-one n) ∙ ap (λ ks. a ∷ ks) (later n 0)
+  where
+    later : (n p : ℕ) → map (step next a) (range_with_len (p + 1) n) ≡ map (step next (get_or next a 0)) (range_with_len p n)
+    later zero p = refl
+    later (suc n) p = ap₂ (λ k ks. k ∷ ks) (sym (step_shift next a p)) (later n (p + 1))
 
 -- steps add up
 pub step_add : (next : List ℕ) (a n m : ℕ) → step next a (n + m) ≡ step next (step next a n) m

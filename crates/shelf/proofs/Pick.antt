@@ -28,7 +28,7 @@ pub below_append : (n : ℕ) (ks js : List ℕ) → Below n ks → Below n js �
 below_append n [] js b h = h
 below_append n (k ∷ ks) js b h = (b.0, below_append n ks js b.1 h)
 
-below_at : (n : ℕ) (ks : List ℕ) (p : ℕ) → Below n ks → p < length ks → get_or ks p 0 < n
+pub below_at : (n : ℕ) (ks : List ℕ) (p : ℕ) → Below n ks → p < length ks → get_or ks p 0 < n
 below_at n [] p b h = absurd (omega arith)
 below_at n (k ∷ ks) zero b h = b.0
 below_at n (k ∷ ks) (suc p) b h = below_at n ks p b.1 (omega arith)

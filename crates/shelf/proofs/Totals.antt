@@ -1,11 +1,11 @@
 -- The free cells by the lengths of all chains. Assumes nothing.
-use Rattle.std.proofs.Common.{◌≡◌, ℕ, zero, suc, ◌+◌, ◌<◌, ◌≤◌, List, map, length, get_or, drop, sum, refl, ap, ◌∙◌, inl, inr, arith}
-use Rattle.std.proofs.lemmas.List.{drop_more, drop_all, get_or_past}
+use Rattle.std.proofs.Common.{◌≡◌, ℕ, zero, suc, ◌+◌, ◌-◌, ◌<◌, ◌≤◌, List, map, length, get_or, drop, sum, refl, ap, ◌∙◌, inl, inr, arith}
+use Rattle.std.proofs.lemmas.List.{drop_more, drop_all, get_or_past, length-map}
 use Rattle.std.proofs.lemmas.List.Sums.{sum_by-cons, get_or-le-sum_by}
 use Rattle.std.proofs.lemmas.Bool.{cases_eq, cases_lt}
 use Rattle.std.specs.List.{range_with_len}
 use Rattle.std.proofs.lemmas.List.FromFn.{fill_by_all, length-map-range_with_len, sum_by-map-range_with_len_more}
-use Rattle.shelf.specs.Links.{cell_at}
+use Rattle.shelf.specs.Links.{firsts, lens, cell_at}
 use Rattle.shelf.specs.Standing.{standing, places, total, free}
 use Rattle.shelf.specs.declared.book.ChainBook.{ChainBook}
 use Rattle.shelf.proofs.Moves.{same_counted}
@@ -14,19 +14,26 @@ pub total_same : (f g : ℕ → ℕ) → ((c : ℕ) → c < 16 → f c ≡ g c) 
 unfolding total
 total_same f g same = ap sum (same_counted f g 16 same)
 
-pub length_places : (b : ChainBook) (c : ℕ) → length (places b c) ≡ get_or b.len c 0
-length_places b c = length-map-range_with_len (cell_at b.next b.first c) 0 (get_or b.len c 0)
+pub length_places : (b : ChainBook) (c : ℕ) → length (places b c) ≡ get_or (lens b.rows) c 0
+length_places b c = length-map-range_with_len (cell_at b.next (firsts b.rows) c) 0 (get_or (lens b.rows) c 0)
 
 sum_total : (xs : List ℕ) → length xs ≡ 17 → sum xs ≡ total (λ c. get_or xs c 0) + get_or xs 16 0
 unfolding total
 sum_total xs long =
     ap sum (fill_by_all (λ c. get_or xs c 0) xs 17 0 long (λ k h. refl)) ∙ sum_by-map-range_with_len_more (λ x. x) (λ c. get_or xs c 0) 0 16 16 (omega arith)
 
-pub free_is : (b : ChainBook) → length b.len ≡ 17 → get_or b.len 16 0 ≡ free (standing b)
-free_is b long =
-    let one = sum_total b.len long in
-    let two = total_same (λ c. length (places b c)) (λ c. get_or b.len c 0) (λ c h. length_places b c) in
-    omega (arith, b.whole)
+-- the cells of row c, in tables that no book need hold
+abbrev pub row : (next first len : List ℕ) → ℕ → List ℕ
+row next first len c = map (cell_at next first c) (range_with_len 0 (get_or len c 0))
+
+pub free_of : (next first len : List ℕ) (size : ℕ) → length len ≡ 17 → sum len ≡ size → get_or len 16 0 ≡ size - total (λ c. length (row next first len c))
+free_of next first len size long whole =
+    let one = sum_total len long in
+    let two = total_same (λ c. length (row next first len c)) (λ c. get_or len c 0) (λ c h. length-map-range_with_len (cell_at next first c) 0 (get_or len c 0)) in
+    omega arith
+
+pub free_is : (b : ChainBook) → length b.rows ≡ 17 → get_or (lens b.rows) 16 0 ≡ free (standing b)
+free_is b long = free_of b.next (firsts b.rows) (lens b.rows) b.size (length-map b.rows (λ r. r.len) ∙ long) b.whole
 
 -- sums over a run of chains: one chain more, and where each number has not risen, or one of them has risen by k
 sum_first : (f : ℕ → ℕ) (n a : ℕ) → sum (map f (range_with_len a (suc n))) ≡ f a + sum (map f (range_with_len (a + 1) n))
@@ -84,14 +91,14 @@ sum_front xs (suc n) a =
       | inr h ↦ omega (arith, get_or_past xs a 0 h, ap sum (drop_all (a + 1) xs (omega arith)))
     ]
 
-pub total_places : (b : ChainBook) → total (λ c. length (places b c)) ≤ sum b.len
+pub total_places : (b : ChainBook) → total (λ c. length (places b c)) ≤ sum (lens b.rows)
 unfolding total
-total_places b = omega (arith, total_same (λ c. length (places b c)) (λ c. get_or b.len c 0) (λ c h. length_places b c), sum_front b.len 16 0)
+total_places b = omega (arith, total_same (λ c. length (places b c)) (λ c. get_or (lens b.rows) c 0) (λ c h. length_places b c), sum_front (lens b.rows) 16 0)
 
 -- no row has more than 256
 pub places_few : (b : ChainBook) (c : ℕ) → length (places b c) ≤ 256
 places_few b c =
-    elim (cases_lt c (length b.len)) [
-      | inl h ↦ omega (arith, length_places b c, get_or-le-sum_by (λ x. x) b.len c 0 h, b.whole, b.few)
-      | inr h ↦ omega (arith, length_places b c, get_or_past b.len c 0 h)
+    elim (cases_lt c (length (lens b.rows))) [
+      | inl h ↦ omega (arith, length_places b c, get_or-le-sum_by (λ x. x) (lens b.rows) c 0 h, b.whole, b.few)
+      | inr h ↦ omega (arith, length_places b c, get_or_past (lens b.rows) c 0 h)
     ]

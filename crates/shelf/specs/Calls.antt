@@ -28,6 +28,15 @@ Sizing s n r s' = Answers (size_checks s.size n) r (λ _. Empty n s') (s' ≡ s)
 abbrev pub access_checks : (size shown c : ℕ) → List (Bool × Refusal)
 access_checks size shown c = (nat_lt 15 c, Chain) ∷ (not (shown == size), Memory) ∷ []
 
+-- ---- count
+
+abbrev pub count_checks : (c : ℕ) → List (Bool × Refusal)
+count_checks c = (nat_lt 15 c, Chain) ∷ []
+
+-- n is how many cells chain c has
+abbrev pub Count : Standing → ℕ → Result ℕ Refusal → Type 0
+Count s c r = Answers (count_checks c) r (λ n. n ≡ length (s.chain c)) (Unit {0})
+
 -- ---- append
 
 -- and then: `count` items, where `room` cells are free

@@ -1,5 +1,6 @@
 -- Key cells as bytes: each cell of a shelf of keys holds sixteen. Assumes nothing.
-use Rattle.std.specs.Prelude.{◌≡◌, ℕ, zero, suc, ◌*◌, ◌/◌, Bool, List, [], ◌∷◌, ◌++◌, length, take, drop, Result, nat_lt}
+use Rattle.std.specs.Prelude.{◌≡◌, ℕ, ◌*◌, ◌/◌, Bool, List, [], ◌∷◌, ◌++◌, length, drop, Result, nat_lt}
+use Rattle.std.specs.Simd.{first_chunks}
 use Rattle.refusal.specs.Checks.{Answers}
 use Rattle.refusal.specs.declared.Refusal.{Refusal}
 use Rattle.refusal.specs.declared.Refusal.TheVariants.{Output}
@@ -7,14 +8,9 @@ use Rattle.shelf.specs.Standing.{Standing}
 use Rattle.shelf.specs.Items.{list}
 use Rattle.shelf.specs.Calls.{access_checks}
 
--- the first n cells that bytes make: sixteen bytes each, in order
-unfoldable pub cut_cells : ℕ → List ℕ → List (List ℕ)
-cut_cells zero bytes = []
-cut_cells (suc n) bytes = take 16 bytes ∷ cut_cells n (drop 16 bytes)
-
--- all of them; a rest shorter than a cell makes none
+-- the cells that bytes make: sixteen bytes each, in order; a rest shorter than a cell makes none
 abbrev pub key_cells : List ℕ → List (List ℕ)
-key_cells bytes = cut_cells (length bytes / 16) bytes
+key_cells bytes = first_chunks 16 (length bytes / 16) bytes
 
 -- lists, one behind another
 unfoldable pub joined : List (List ℕ) → List ℕ

@@ -1,11 +1,27 @@
 -- Rows of linked cells, over plain tables: for each row its first cell and its length, for each cell the next one.
 -- The chain book keeps these facts in its type; no promise to a caller speaks of them. Assumes nothing.
-use Rattle.std.specs.Prelude.{◌≡◌, ℕ, zero, suc, ◌+◌, ◌<◌, List, slice_index}
+use Rattle.std.specs.Prelude.{◌≡◌, ℕ, zero, suc, ◌+◌, ◌<◌, List, map, slice_index}
+use Rattle.std.specs.List.{range_with_len}
+use Rattle.shelf.specs.declared.book.Row.{Row}
+
+-- what each row says of its first cell, its last cell and its length
+abbrev pub firsts : List Row → List ℕ
+firsts rows = map (λ r. r.first) rows
+
+abbrev pub lasts : List Row → List ℕ
+lasts rows = map (λ r. r.last) rows
+
+abbrev pub lens : List Row → List ℕ
+lens rows = map (λ r. r.len) rows
 
 -- the cell that lies p links after cell a
 abbrev pub step : List ℕ → ℕ → ℕ → ℕ
 step next a zero = a
 step next a (suc p) = slice_index next (step next a p)
+
+-- n cells, one link after another from cell a on
+abbrev pub run : List ℕ → ℕ → ℕ → List ℕ
+run next a n = map (step next a) (range_with_len 0 n)
 
 -- the cell at position p of row c
 abbrev pub cell_at : List ℕ → List ℕ → ℕ → ℕ → ℕ

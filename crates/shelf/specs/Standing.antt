@@ -2,7 +2,7 @@
 -- Assumes nothing.
 use Rattle.std.specs.Prelude.{ℕ, ◌-◌, List, map, length, sum, slice_index}
 use Rattle.std.specs.List.{range_with_len}
-use Rattle.shelf.specs.Links.{cell_at}
+use Rattle.shelf.specs.Links.{firsts, lens, cell_at}
 use Rattle.shelf.specs.declared.book.ChainBook.{ChainBook}
 
 pub record Standing : Type 0 where
@@ -20,7 +20,7 @@ free s = s.size - total (λ c. length (s.chain c))
 
 -- the cells of row c of a book, in order: rows 0 to 15 are the chains, and row 16 has the free cells
 abbrev pub places : ChainBook → ℕ → List ℕ
-places b c = map (cell_at b.next b.first c) (range_with_len 0 (slice_index b.len c))
+places b c = map (cell_at b.next (firsts b.rows) c) (range_with_len 0 (slice_index (lens b.rows) c))
 
 -- what a book says
 abbrev pub standing : ChainBook → Standing

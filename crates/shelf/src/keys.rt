@@ -23,16 +23,8 @@ impl Shelf<KeyCell> {
         ensures kept { is_err result ≡ true → self.new ≡ self.old }
         ensures past { AddsAppend (standing self.old.book) cells.old chain (key_cells bytes.now) result (standing self.new.book) cells.new }
     {
-        self.admit(chain, cells.len())?;
-        let count = bytes.len() / CELL;
-        if self.book.free() < count {
-            return Err(Refusal::Cells);
-        }
-        for i in 0..count {
-            let cell = self.book.link(chain);
-            cells[cell].copy_from_slice(&bytes[CELL * i..CELL * i + CELL]);
-        }
-        Ok(())
+        let (pieces, _rest) = bytes.as_chunks::<CELL>();
+        self.append(cells, chain, pieces)
     }
 
     // Copies the bytes of a whole chain to the front of `out`, in order, and tells how many they are.
@@ -50,10 +42,8 @@ impl Shelf<KeyCell> {
         if out.len() < due {
             return Err(Refusal::Output);
         }
-        let mut cell = self.book.start(chain);
-        for i in 0..count {
-            out[CELL * i..CELL * i + CELL].copy_from_slice(&cells[cell as usize]);
-            cell = self.book.after(cell);
+        for (i, cell) in self.book.chain(chain).enumerate() {
+            out[CELL * i..CELL * i + CELL].copy_from_slice(&cells[cell]);
         }
         Ok(due)
     }

@@ -4,24 +4,28 @@ ghost use Rattle.shelf.specs.Standing.{standing, places, free as free_cells};
 ghost use Rattle.shelf.specs.Items.{Without};
 ghost use Rattle.shelf.specs.Calls.{Sizing, Empty, Emptied};
 
-use super::book::ChainBook;
+use super::book::{ChainBook, Row};
+use super::cells::Cells;
 use refusal::Refusal;
+use std::array;
 
 pub(super) const CHAINS: usize = 16;
 
-pub(super) const MOST_CELLS: usize = 256;
+const MOST_CELLS: u16 = 256;
 
 const FREE: usize = 16;
+
+const EMPTY: Row = Row {
+    first: 0,
+    last: 0,
+    len: 0,
+};
 
 // Each cell linked to the one after it.
 fn line() -> [u8; 256]
     ensures { (k : ℕ) → k < 255 → slice_index result k ≡ k + 1 }
 {
-    let mut next = [0u8; 256];
-    for i in 0..255u8 {
-        next[i as usize] = i + 1;
-    }
-    next
+    array::from_fn(|cell| (cell.wrapping_add(1) % 256) as u8)
 }
 
 impl ChainBook {
@@ -32,9 +36,7 @@ impl ChainBook {
         ChainBook {
             size: 0,
             next: [0; 256],
-            first: [0; 17],
-            last: [0; 16],
-            len: [0; 17],
+            rows: [EMPTY; 17],
         }
     }
 
@@ -43,110 +45,90 @@ impl ChainBook {
         ensures outcome { Sizing (standing self.old) n result (standing self.new) }
         ensures kept { is_err result ≡ true → self.new ≡ self.old }
     {
-        if n < 1 {
-            return Err(Refusal::Size);
+        match u16::try_from(n) {
+            Ok(size @ 1..=MOST_CELLS) if self.size == 0 => {
+                self.next = line();
+                self.rows[FREE] = Row { len: size, ..EMPTY };
+                self.size = size;
+                Ok(())
+            }
+            _ => Err(Refusal::Size),
         }
-        if n > MOST_CELLS {
-            return Err(Refusal::Size);
-        }
-        if self.size != 0 {
-            return Err(Refusal::Size);
-        }
-        self.next = line();
-        self.first[FREE] = 0;
-        self.len[FREE] = n as u16;
-        self.size = n as u16;
-        Ok(())
     }
 
     // How many cells are free.
     pub(super) fn free(&self) -> usize
-        ensures cells { result ≡ free_cells (standing self.now) }
-        ensures row { result ≡ slice_index self.now.len 16 }
+        ensures { result ≡ free_cells (standing self.now) }
     {
-        self.len[FREE] as usize
+        usize::from(self.rows[FREE].len)
     }
 
     // How many cells a chain has.
     pub(super) fn count(&self, chain: usize) -> usize
         requires { chain < 16 }
-        ensures cells { result ≡ length (places self.now chain) }
-        ensures row { result ≡ slice_index self.now.len chain }
+        ensures { result ≡ length (places self.now chain) }
     {
-        self.len[chain] as usize
+        usize::from(self.rows[chain].len)
     }
 
-    // Where a chain that has cells begins.
-    pub(super) fn start(&self, chain: usize) -> u8
+    // The cells of a chain, in order.
+    pub(super) fn chain(&self, chain: usize) -> Cells<'_>
         requires { chain < 16 }
-        ensures { result ≡ slice_index self.now.first chain }
+        ensures { result ≡ places self.now chain }
     {
-        self.first[chain]
-    }
-
-    // The cell that a cell is linked to.
-    pub(super) fn after(&self, cell: u8) -> u8
-        ensures { result ≡ slice_index self.now.next cell }
-    {
-        self.next[cell as usize]
+        let row = self.rows[chain];
+        Cells {
+            next: &self.next,
+            cell: row.first,
+            left: row.len,
+        }
     }
 
     // Moves the first free cell to the end of a chain, and names it.
     pub(super) fn link(&mut self, chain: usize) -> usize
-        requires { (chain < 16) × (0 < slice_index self.old.len 16) }
+        requires { (chain < 16) × (0 < free_cells (standing self.old)) }
         ensures sized { self.new.size ≡ self.old.size }
         ensures within { result < self.old.size }
-        ensures free { slice_index self.new.len 16 + 1 ≡ slice_index self.old.len 16 }
+        ensures free { free_cells (standing self.new) + 1 ≡ free_cells (standing self.old) }
         ensures added { places self.new chain ≡ places self.old chain ++ (result ∷ []) }
         ensures others { (d : ℕ) → d < 16 → (d ≢ chain) → places self.new d ≡ places self.old d }
         ensures fresh { (d : ℕ) → d < 16 → Without result (places self.old d) }
     {
-        let cell = self.first[FREE];
-        let n = self.len[chain];
-        self.first[FREE] = self.next[cell as usize];
-        self.len[FREE] -= 1;
-        if n == 0 {
-            self.first[chain] = cell;
+        let free = self.rows[FREE];
+        let row = self.rows[chain];
+        let cell = usize::from(free.first);
+        self.rows[FREE] = Row {
+            first: self.next[cell],
+            len: free.len - 1,
+            ..free
+        };
+        let first = if row.len == 0 {
+            free.first
         } else {
-            self.next[self.last[chain] as usize] = cell;
-        }
-        self.last[chain] = cell;
-        self.len[chain] = n + 1;
-        cell as usize
-    }
-
-    // The cell at a position of a chain.
-    pub(super) fn cell_at(&self, chain: usize, position: usize) -> usize
-        requires { (chain < 16) × (position < slice_index self.now.len chain) }
-        ensures place { result ≡ slice_index (places self.now chain) position }
-        ensures within { result < self.now.size }
-    {
-        let mut cell = self.first[chain];
-        for i in 0..position {
-            cell = self.next[cell as usize];
-        }
-        cell as usize
+            self.next[usize::from(row.last)] = free.first;
+            row.first
+        };
+        self.rows[chain] = Row {
+            first,
+            last: free.first,
+            len: row.len + 1,
+        };
+        cell
     }
 
     // Hands the cells of a chain that has some back to the free ones.
-    fn unlink(&mut self, chain: usize)
-        requires { (chain < 16) × (0 < slice_index self.old.len chain) }
+    pub(super) fn unlink(&mut self, chain: usize)
+        requires { (chain < 16) × (0 < length (places self.old chain)) }
         ensures { Emptied (standing self.old) chain (standing self.new) }
     {
-        let n = self.len[chain];
-        self.next[self.last[chain] as usize] = self.first[FREE];
-        self.first[FREE] = self.first[chain];
-        self.len[FREE] += n;
-        self.len[chain] = 0;
-    }
-
-    // Empties a chain.
-    pub(super) fn clear(&mut self, chain: usize)
-        requires { chain < 16 }
-        ensures { Emptied (standing self.old) chain (standing self.new) }
-    {
-        if self.len[chain] > 0 {
-            self.unlink(chain);
-        }
+        let free = self.rows[FREE];
+        let row = self.rows[chain];
+        self.next[usize::from(row.last)] = free.first;
+        self.rows[FREE] = Row {
+            first: row.first,
+            len: free.len + row.len,
+            ..free
+        };
+        self.rows[chain] = Row { len: 0, ..row };
     }
 }

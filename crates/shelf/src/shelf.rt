@@ -2,7 +2,7 @@
 ghost use Rattle.std.specs.Prelude.{◌≡◌, ℕ, true, List, [], length, is_err, Ok};
 ghost use Rattle.shelf.specs.Standing.{standing, free as free_cells};
 ghost use Rattle.refusal.specs.Checks.{first, refusal};
-ghost use Rattle.shelf.specs.Calls.{access_checks, Empty, Sizing, Append, Read, Gather, Drop as Dropping};
+ghost use Rattle.shelf.specs.Calls.{access_checks, Empty, Sizing, Count, Append, Read, Gather, Drop as Dropping};
 ghost use Rattle.shelf.specs.Past.{Law, Ran, AddsAppend, AddsRead, AddsDrop};
 
 use super::book::ChainBook;
@@ -41,7 +41,7 @@ impl<T: Copy> Shelf<T> {
     pub fn cells(&self) -> usize
         ensures { result ≡ (standing self.now.book).size }
     {
-        self.book.size as usize
+        usize::from(self.book.size)
     }
 
     // How many cells are free.
@@ -51,14 +51,22 @@ impl<T: Copy> Shelf<T> {
         self.book.free()
     }
 
-    // What every call on a chain in cell memory checks first: the chain, and then how many items the memory has.
-    pub(super) fn admit(&self, chain: usize, shown: usize) -> Result<(), Refusal>
-        ensures { refusal result ≡ first (access_checks self.now.book.size shown chain) }
+    // How many items a chain has.
+    pub fn count(&self, chain: usize) -> Result<usize, Refusal>
+        ensures { Count (standing self.now.book) chain result }
     {
         if chain >= CHAINS {
             return Err(Refusal::Chain);
         }
-        if shown != self.book.size as usize {
+        Ok(self.book.count(chain))
+    }
+
+    // What every call on a chain in cell memory checks first: the chain, and then how many items the memory has.
+    pub(super) fn admit(&self, chain: usize, shown: usize) -> Result<(), Refusal>
+        ensures { refusal result ≡ first (access_checks self.now.book.size shown chain) }
+    {
+        self.count(chain)?;
+        if shown != usize::from(self.book.size) {
             return Err(Refusal::Memory);
         }
         Ok(())
@@ -74,7 +82,7 @@ impl<T: Copy> Shelf<T> {
         if self.book.free() < items.len() {
             return Err(Refusal::Cells);
         }
-        for (i, item) in items.iter().enumerate() {
+        for item in items {
             let cell = self.book.link(chain);
             cells[cell] = *item;
         }
@@ -87,10 +95,12 @@ impl<T: Copy> Shelf<T> {
         ensures past { AddsRead (standing self.now.book) cells.now chain position result }
     {
         self.admit(chain, cells.len())?;
-        if position >= self.book.count(chain) {
-            return Err(Refusal::Position);
-        }
-        Ok(cells[self.book.cell_at(chain, position)])
+        let cell = self
+            .book
+            .chain(chain)
+            .nth(position)
+            .ok_or(Refusal::Position)?;
+        Ok(cells[cell])
     }
 
     // Copies a whole chain to the front of `out`, in order, and tells how many items it has.
@@ -102,10 +112,8 @@ impl<T: Copy> Shelf<T> {
         if out.len() < count {
             return Err(Refusal::Output);
         }
-        let mut cell = self.book.start(chain);
-        for i in 0..count {
-            out[i] = cells[cell as usize];
-            cell = self.book.after(cell);
+        for (i, cell) in self.book.chain(chain).enumerate() {
+            out[i] = cells[cell];
         }
         Ok(count)
     }
@@ -116,10 +124,9 @@ impl<T: Copy> Shelf<T> {
         ensures kept { is_err result ≡ true → self.new ≡ self.old }
         ensures past { AddsDrop T (standing self.old.book) chain result (standing self.new.book) }
     {
-        if chain < CHAINS {
-            self.book.clear(chain);
-            return Ok(());
+        if self.count(chain)? > 0 {
+            self.book.unlink(chain);
         }
-        Err(Refusal::Chain)
+        Ok(())
     }
 }

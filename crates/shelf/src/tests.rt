@@ -12,10 +12,7 @@ struct Note {
 
 // The number of the refusal, or 0.
 fn told<A: Drop>(r: Result<A, Refusal>) -> u8 {
-    match r {
-        Ok(_) => 0,
-        Err(e) => e.number(),
-    }
+    r.err().map_or(0, |e| e.number())
 }
 
 #[test]
@@ -111,6 +108,8 @@ fn fill_and_empty(
         0
     );
     assert_eq!(rt; told(shelf.append(cells, 3, &[[0; 16]])), 6);
+    assert_eq!(rt; shelf.count(chain)?, 2);
+    assert_eq!(rt; told(shelf.count(16)), 4);
     let mut all = [[0u8; 16]; 5];
     assert_eq!(rt; shelf.gather(cells, chain, &mut all)?, 2);
     assert_eq!(rt; all[0][3], mark);

@@ -1,29 +1,30 @@
-use Rattle.std.proofs.Common.{refl, ◌∙◌, arith}
+use Rattle.std.proofs.Common.{◌<◌, get_or, sym, refl, ◌∙◌, arith}
+use Rattle.std.proofs.lemmas.List.{length-map}
 use Rattle.std.proofs.lemmas.List.Sums.{get_or-le-sum_by}
-use Rattle.shelf.proofs.Link.{ready_of}
-use Rattle.shelf.proofs.Unlink.{freed_sum, freed_within, freed_separate, freed_ends, freed_others, freed_empty}
+use Rattle.shelf.specs.Links.{lens}
+use Rattle.shelf.proofs.Totals.{length_places, places_few}
+use Rattle.shelf.proofs.Tables.{len_at, unlink_kept, unlink_others, unlink_none, unlink_within}
 use Rattle.shelf.proofs.book.ChainBook.unlink.Goals as goal
+
+pub bounds-self-from : goal.bounds-self-from
+bounds-self-from c =
+    let b = c.args.self.now in
+    omega (arith, c.from.ensures, unlink_within b c.args.chain c.requires.0 (omega arith) (omega (arith, length_places b c.args.chain, c.requires.1)), b.few)
 
 pub overflow_add-self : goal.overflow_add-self
 overflow_add-self c =
     let b = c.args.self.now in
-    let one = get_or-le-sum_by (λ x. x) b.len c.args.chain 0 (omega arith) in
-    let two = get_or-le-sum_by (λ x. x) b.len 16 0 (omega arith) in
-    omega (arith, b.whole, b.few)
+    omega (arith, len_at b.rows 16, len_at b.rows c.args.chain, get_or-le-sum_by (λ x. x) (lens b.rows) 16 0 (omega (arith, length-map b.rows (λ r. r.len))), length_places b c.args.chain, places_few b c.args.chain, b.whole, b.few)
 
 pub invariant_of-self : goal.invariant_of-self
 invariant_of-self c =
     let b = c.args.self.now in
-    let r = ready_of b c.args.chain c.requires.0 (omega arith) in
-    record {
-      few = b.few;
-      whole = freed_sum r c.requires.1 ∙ b.whole;
-      within = freed_within r c.requires.1;
-      apart = freed_separate r c.requires.1;
-      ends = freed_ends r c.requires.1;
-    }
+    let any : 0 < get_or (lens b.rows) c.args.chain 0 = omega (arith, length_places b c.args.chain, c.requires.1) in
+    let k = unlink_kept b c.args.chain c.requires.0 (omega arith) any _ c.from.ensures in
+    record { few = b.few; whole = k.whole; within = k.within; apart = k.apart; ends = k.ends }
 
 pub returns : goal.returns
 returns c =
-    let r = ready_of c.args.self.now c.args.chain c.requires.0 (omega arith) in
-    record { sized = refl; none = freed_empty r c.requires.1; others = freed_others r c.requires.1 }
+    let b = c.args.self.now in
+    let any : 0 < get_or (lens b.rows) c.args.chain 0 = omega (arith, length_places b c.args.chain, c.requires.1) in
+    record { sized = refl; none = unlink_none b c.args.chain c.requires.0 (omega arith) any _ c.from.ensures; others = unlink_others b c.args.chain c.requires.0 (omega arith) any _ c.from.ensures }

@@ -1,10 +1,10 @@
-use Rattle.std.proofs.Common.{◌≡◌, ◌+◌, ◌≤◌, length, get_or, take}
-use Rattle.shelf.specs.Standing.{standing}
+use Rattle.std.proofs.Common.{◌≡◌, ◌+◌, take}
+use Rattle.shelf.specs.Standing.{standing, free}
 use Rattle.shelf.specs.Calls.{Grown}
 use Rattle.shelf.proofs.shelf.Shelf.append.Given as goal
 
--- the items so far are appended, and as many cells fewer are free
-abbrev pub invariant-loop-i : goal.invariant-loop-i
-invariant-loop-i g l =
-    Grown (standing l.initial.self.book) l.initial.cells l.chain (take l.i l.items) (standing l.self.book) l.cells
-    × (get_or l.self.book.len 16 0 + l.i ≡ get_or l.initial.self.book.len 16 0) × (l.i ≤ length l.items)
+-- the items so far are appended, and as many fewer cells are free
+abbrev pub invariant-loop-item : goal.invariant-loop-item
+invariant-loop-item g l =
+    Grown (standing l.initial.self.book) l.initial.cells l.chain (take l.item-index l.items) (standing l.self.book) l.cells
+    × (free (standing l.self.book) + l.item-index ≡ free (standing l.initial.self.book))

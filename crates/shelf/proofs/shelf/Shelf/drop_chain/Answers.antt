@@ -1,21 +1,15 @@
-use Rattle.std.proofs.Common.{Ok, Err, refl, arith}
-use Rattle.std.proofs.lemmas.Bool.{lt-ltb, le-ltb, both_ways}
-use Rattle.refusal.specs.declared.Refusal.TheVariants.{Chain}
-use Rattle.refusal.proofs.Checks.{told_here, told_later}
-use Rattle.shelf.specs.Standing.{standing}
-use Rattle.shelf.specs.Calls.{Drop}
+use Rattle.std.proofs.Common.{refl, arith, rules}
+use Rattle.std.proofs.lemmas.List.{nil_from_length}
+use Rattle.shelf.specs.Standing.{places}
 use Rattle.shelf.proofs.Law.{adds_drop}
 use Rattle.shelf.proofs.shelf.Shelf.drop_chain.Goals as goal
 
-pub returns : goal.returns
-returns g c =
-    let s = standing c.args.self.now.book in
-    let did : Drop s c.args.chain (Err Chain) s = record { told = told_here _ _ _ (lt-ltb 15 c.args.chain (omega arith)); holds = refl } in
-    record { outcome = did; kept = λ _. refl; past = adds_drop s c.args.chain (Err Chain) s did }
+pub returns-in_err-count-clause-past : goal.returns-in_err-count-clause-past
+returns-in_err-count-clause-past g c = adds_drop _ _ _ _ (search rules)
 
-pub returns-then-chain-lt-CHAINS : goal.returns-then-chain-lt-CHAINS
-returns-then-chain-lt-CHAINS g c =
-    let s = standing c.args.self.now.book in
-    let s' = standing c.clear.new.self in
-    let did : Drop s c.args.chain (Ok tt) s' = record { told = told_later _ _ _ _ (le-ltb 15 c.args.chain (omega arith)) refl; holds = c.clear.ensures } in
-    record { outcome = did; kept = λ z. absurd (both_ways _ refl z); past = adds_drop s c.args.chain (Ok tt) s' did }
+pub returns-then-branch-gt0-clause-past : goal.returns-then-branch-gt0-clause-past
+returns-then-branch-gt0-clause-past g c = adds_drop _ _ _ _ (search rules)
+
+pub returns-else-branch-gt0-clause-past : goal.returns-else-branch-gt0-clause-past
+returns-else-branch-gt0-clause-past g c =
+    adds_drop _ _ _ _ (record { told = search rules; holds = record { none = nil_from_length (places c.args.self.now.book c.args.chain) (omega (arith, c.in_ok-count.ensures.holds)); others = λ d h n. refl; sized = refl } })

@@ -1,44 +1,49 @@
-use Rattle.std.proofs.Common.{◌<◌, length, get_or, Ok, Err, ap, ◌∙◌, arith}
-use Rattle.std.proofs.lemmas.Bool.{le-leb, lt-leb}
-use Rattle.refusal.specs.declared.Refusal.TheVariants.{Position}
+use Rattle.std.proofs.Common.{◌≡◌, ◌<◌, [], length, get_or, ap, ◌∙◌, arith, rules}
+use Rattle.std.proofs.lemmas.Bool.{lt-leb, le-leb}
 use Rattle.std.proofs.lemmas.Result.{err_from_is_err_and}
 use Rattle.refusal.proofs.Checks.{answers_early}
-use Rattle.shelf.specs.Standing.{standing, places}
-use Rattle.shelf.specs.Items.{Below}
-use Rattle.shelf.specs.Calls.{access_checks, Read}
-use Rattle.shelf.proofs.Pick.{nth_items}
-use Rattle.shelf.proofs.Grow.{below_places}
+use Rattle.shelf.specs.Calls.{read_checks}
+use Rattle.shelf.specs.Standing.{places}
 use Rattle.shelf.proofs.Access.{admitted, third_due, third_clear}
+use Rattle.shelf.proofs.Grow.{below_memory, in_memory}
 use Rattle.shelf.proofs.Law.{adds_read}
+use Rattle.shelf.proofs.Pick.{nth_items}
+use Rattle.shelf.proofs.Walks.{found, missed}
 use Rattle.shelf.proofs.shelf.Shelf.read.Goals as goal
 
-pub returns-in_err-admit : goal.returns-in_err-admit
-returns-in_err-admit g c =
-    let s = standing c.args.self.now.book in
+pub returns-in_err-admit-clause-past : goal.returns-in_err-admit-clause-past
+returns-in_err-admit-clause-past g c = adds_read _ _ _ _ _ (search rules)
+
+pub returns-in_err-cell-clause-past : goal.returns-in_err-cell-clause-past
+returns-in_err-cell-clause-past g c =
+    let b = c.args.self.now.book in
+    let ok = admitted b.size (length c.args.cells.now) c.args.chain c.in_ok-admit.ensures in
+    let past = missed (places b c.args.chain) c.args.position c.chain.ensures _ _ c.nth.ensures.ran _ c.ok_or.ensures.value c.in_err-cell.was in
+    let p = err_from_is_err_and c.from_residual-in_err-cell.result c.from_residual-in_err-cell.ensures.1 in
+    adds_read _ _ _ _ _
+    (answers_early (read_checks b.size (length (places b c.args.chain)) (length c.args.cells.now) c.args.chain c.args.position) [] _ _ _ _ _ p.1 (p.2 ∙ past.0) (third_due ok.0 ok.1 _ _ (le-leb _ c.args.position past.1)) tt)
+
+pub bounds-cells-cell : goal.bounds-cells-cell
+bounds-cells-cell g c =
+    let b = c.args.self.now.book in
+    let ok = admitted b.size (length c.args.cells.now) c.args.chain c.in_ok-admit.ensures in
+    let at = found (places b c.args.chain) c.args.position c.chain.ensures _ _ c.nth.ensures.ran _ c.ok_or.ensures.value c.in_ok-cell.was in
+    omega (arith, at.1, in_memory b c.args.chain (length c.args.cells.now) c.args.position ok.0 ok.1 at.0)
+
+pub offset_bounds-cells-cell : goal.offset_bounds-cells-cell
+offset_bounds-cells-cell g c = omega (arith, bounds-cells-cell g c)
+
+pub returns-clause-outcome : goal.returns-clause-outcome
+returns-clause-outcome g c =
+    let b = c.args.self.now.book in
     let cells = c.args.cells.now in
-    let p = err_from_is_err_and c.from_residual.result c.from_residual.ensures.1 in
-    let did : Read s cells c.args.chain c.args.position c.from_residual.result =
-    answers_early (access_checks s.size (length cells) c.args.chain) _ c.from_residual.result _ _ _ _ p.1 p.2 c.in_err-admit.ensures tt in
-    record { outcome = did; past = adds_read s _ _ _ _ did }
-
-pub returns-then-position-count : goal.returns-then-position-count
-returns-then-position-count g c =
-    let b = c.args.self.now.book in
-    let ok = admitted b.size (length c.args.cells.now) c.args.chain c.in_ok-admit.ensures in
-    let s = standing c.args.self.now.book in
-    let did : Read s c.args.cells.now c.args.chain c.args.position (Err Position) =
-    record { told = third_due ok.0 ok.1 _ _ (le-leb _ c.args.position (omega (arith, c.count.ensures.cells))); holds = tt } in
-    record { outcome = did; past = adds_read s _ _ _ _ did }
-
-pub returns : goal.returns
-returns g c =
-    let b = c.args.self.now.book in
-    let ok = admitted b.size (length c.args.cells.now) c.args.chain c.in_ok-admit.ensures in
+    let ok = admitted b.size (length cells) c.args.chain c.in_ok-admit.ensures in
     let ks = places b c.args.chain in
-    let cells = c.args.cells.now in
-    let below : Below (length cells) ks = rw ok.1 (below_places b c.args.chain (omega (arith, ok.0))) in
-    let lt : c.args.position < length ks = omega (arith, c.count.ensures.cells) in
-    let at = c.index-cells-cell_at.is ∙ ap (λ k. get_or cells k c.index-cells-cell_at.result) c.cell_at.ensures.place in
-    let did : Read (standing b) cells c.args.chain c.args.position (Ok c.index-cells-cell_at.result) =
-    record { told = third_clear ok.0 ok.1 _ _ (lt-leb (length ks) c.args.position lt); holds = nth_items cells ks c.args.position _ below lt at } in
-    record { outcome = did; past = adds_read (standing b) _ _ _ _ did }
+    let at = found ks c.args.position c.chain.ensures _ _ c.nth.ensures.ran _ c.ok_or.ensures.value c.in_ok-cell.was in
+    record {
+      told = third_clear ok.0 ok.1 _ _ (lt-leb (length ks) c.args.position at.0);
+      holds = nth_items cells ks c.args.position _ (below_memory b c.args.chain _ ok.0 ok.1) at.0 (c.index-cells-cell.is ∙ ap (λ k. get_or cells k c.index-cells-cell.result) at.1);
+    }
+
+pub returns-clause-past : goal.returns-clause-past
+returns-clause-past g c = adds_read _ _ _ _ _ (returns-clause-outcome g c)
