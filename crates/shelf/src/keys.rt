@@ -27,7 +27,8 @@ impl Shelf<KeyCell> {
         self.append(cells, chain, pieces)
     }
 
-    // Copies the bytes of a whole chain to the front of `out`, in order, and tells how many they are.
+    // Copies the bytes of a whole chain to the front of `out`, in order, and tells how many they are. It does not hand
+    // `gather` the cells that `out` makes: nothing is known of what bytes hold once they were written as arrays.
     pub fn gather_bytes(
         &self,
         cells: &[KeyCell],

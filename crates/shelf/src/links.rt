@@ -21,7 +21,7 @@ const EMPTY: Row = Row {
     len: 0,
 };
 
-// Each cell linked to the one after it.
+// Each cell linked to the one after it. (`as` is proved to lose nothing; `u8::try_from` would add a case that never comes.)
 fn line() -> [u8; 256]
     ensures { (k : ℕ) → k < 255 → slice_index result k ≡ k + 1 }
 {

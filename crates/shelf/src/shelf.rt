@@ -10,6 +10,7 @@ use super::links::CHAINS;
 use refusal::Refusal;
 use std::marker::PhantomData;
 
+// Clauses see the shelf itself and not, by an `impl Model`, its standing alone: `kept` promises every link as it was.
 #[derive(Drop)]
 pub struct Shelf<T> {
     pub(super) book: ChainBook,
@@ -112,6 +113,7 @@ impl<T: Copy> Shelf<T> {
         if out.len() < count {
             return Err(Refusal::Output);
         }
+        // Not `out.iter_mut().zip(..)`: after it nothing is known of what `out` holds.
         for (i, cell) in self.book.chain(chain).enumerate() {
             out[i] = cells[cell];
         }

@@ -2,7 +2,6 @@ use Rattle.std.proofs.Common.{◌≡◌, ◌+◌, [], ◌∷◌, ◌++◌, lengt
 use Rattle.std.proofs.lemmas.List.{take_more, take_all}
 use Rattle.std.proofs.lemmas.Bool.{le-ltb}
 use Rattle.shelf.specs.Standing.{standing, free}
-use Rattle.shelf.specs.Calls.{Append}
 use Rattle.shelf.proofs.Grow.{grown_none, grown_more}
 use Rattle.shelf.proofs.Access.{admitted, third_clear}
 use Rattle.shelf.proofs.Law.{adds_append}
