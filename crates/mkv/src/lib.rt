@@ -9,7 +9,8 @@ ghost use Rattle.block.specs.Table.{sub};
 ghost use Rattle.kit.specs.Calls.{told, unless, expand_checks, expand_refusal, cipher_refusal, expanded, enciphered, deciphered};
 ghost use Rattle.mkv.specs.Tables.{Tables};
 ghost use Rattle.mkv.specs.Trace.{stepped, forth, stepped_at, at_width, at_width_back, step_checks, StepsMakeRounds};
-ghost use Rattle.mkv.specs.Versions.{rounds as rounds_of, need as needed, mkv, mkv_128, mkv_256};
+ghost use Rattle.mkv.specs.Meant.{meant};
+ghost use Rattle.mkv.specs.Versions.{rounds as rounds_of, need as needed, mkv_128, mkv_256};
 ghost use Rattle.mkv.specs.Widths.{sound_128, sound_256};
 ghost use Rattle.std.proofs.Common.{rules};
 
@@ -125,8 +126,8 @@ impl<const T: usize> Version<T> {
 
     // Writes the schedule of `key`.
     fn expand(&self, key: &[u8], schedule: &mut [u8]) -> Result<(), Refusal>
-        ensures outcome { refusal result ≡ expand_refusal (mkv T self.now.matrix.rows self.now.inverse.rows) key.now schedule.old }
-        ensures written { schedule.new ≡ expanded (mkv T self.now.matrix.rows self.now.inverse.rows) key.now schedule.old }
+        ensures outcome { refusal result ≡ expand_refusal (meant T self.now) key.now schedule.old }
+        ensures written { schedule.new ≡ expanded (meant T self.now) key.now schedule.old }
     {
         let rounds = self.rounds_at(key.len(), schedule.len())?;
         write_schedule(&self.matrix, rounds, key, schedule);
@@ -134,8 +135,8 @@ impl<const T: usize> Version<T> {
     }
 
     fn encipher(&self, len: usize, schedule: &[u8], block: &mut [u8]) -> Result<(), Refusal>
-        ensures outcome { refusal result ≡ cipher_refusal (mkv T self.now.matrix.rows self.now.inverse.rows) len schedule.now block.old }
-        ensures written { block.new ≡ enciphered (mkv T self.now.matrix.rows self.now.inverse.rows) len schedule.now block.old }
+        ensures outcome { refusal result ≡ cipher_refusal (meant T self.now) len schedule.now block.old }
+        ensures written { block.new ≡ enciphered (meant T self.now) len schedule.now block.old }
     {
         let rounds = self.rounds_at(len, schedule.len())?;
         if block.len() != 4 * T {
@@ -146,8 +147,8 @@ impl<const T: usize> Version<T> {
     }
 
     fn decipher(&self, len: usize, schedule: &[u8], block: &mut [u8]) -> Result<(), Refusal>
-        ensures outcome { refusal result ≡ cipher_refusal (mkv T self.now.matrix.rows self.now.inverse.rows) len schedule.now block.old }
-        ensures written { block.new ≡ deciphered (mkv T self.now.matrix.rows self.now.inverse.rows) len schedule.now block.old }
+        ensures outcome { refusal result ≡ cipher_refusal (meant T self.now) len schedule.now block.old }
+        ensures written { block.new ≡ deciphered (meant T self.now) len schedule.now block.old }
     {
         let rounds = self.rounds_at(len, schedule.len())?;
         if block.len() != 4 * T {
