@@ -1,1 +1,4 @@
 pub mod Trace
+pub mod XWords
+pub mod Rounds
+pub mod KeyCode

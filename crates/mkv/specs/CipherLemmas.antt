@@ -1,9 +1,9 @@
 -- Enciphering and deciphering undo one another under every schedule, at any width and number of rounds. Assumes nothing.
-use Rattle.std.specs.Prelude.{◌≡◌, ℕ, zero, suc, ◌+◌, ◌-◌, ◌*◌, ◌≤◌, List, take, drop, ◌≢◌, refl}
+use Rattle.std.specs.Prelude.{◌≡◌, ℕ, zero, suc, ◌+◌, ◌*◌, List, take, drop}
 use Rattle.std.proofs.Math.Path.{sym, ap}
 use Rattle.std.proofs.Common.{◌∙◌, arith, suc-mul, zero-mul}
 use Rattle.std.proofs.lemmas.List.{length-drop, length-take-le}
-use Rattle.block.specs.Bytes.{Block, xor}
+use Rattle.block.specs.Bytes.{Block}
 use Rattle.block.proofs.Xor.{cancels, block_xor}
 use Rattle.block.proofs.Parts.{bytes_take, bytes_drop}
 use Rattle.mkv.specs.Steps.{round, round_back}
@@ -60,41 +60,3 @@ module _ (t : ℕ) (m n : List (List ℕ)) (u : Inverse t m n) where
       let l = later_keys t r keys hk in
       ap (encipher t m r rest) (round_redone t m n u k (decipher t n r rest x) (first_key t r keys hk) (block_decipher r rest x l hx))
       ∙ encipher_undoes r rest x l hx
-
--- ---- the recursion over the rounds
-
-pub keys_long : (r t : ℕ) → (r ≢ 0) → 8 * t ≤ r * (8 * t)
-keys_long zero t h = absurd (h refl)
-keys_long (suc r) t h = omega (arith, suc-mul r (8 * t))
-
-pub keys_rest : (r t : ℕ) → (r ≢ 0) → r * (8 * t) ≡ 8 * t + (r - 1) * (8 * t)
-keys_rest zero t h = absurd (h refl)
-keys_rest (suc r) t h =
-    let e : suc r - 1 ≡ r = omega arith in
-    suc-mul r (8 * t) ∙ ap (λ n. n * (8 * t) + 8 * t) (sym e) ∙ omega arith
-
-pub encipher_none : (t : ℕ) (m : List (List ℕ)) (r : ℕ) (keys b : List ℕ) → r ≡ 0 → xor b keys ≡ encipher t m r keys b
-unfolding encipher
-encipher_none t m zero keys b e = refl
-encipher_none t m (suc r) keys b e = absurd (omega arith)
-
-pub encipher_more : (t : ℕ) (m : List (List ℕ)) (r : ℕ) (keys b : List ℕ) → (r ≢ 0)
-    → encipher t m (r - 1) (drop (8 * t) keys) (round t m (take (8 * t) keys) b) ≡ encipher t m r keys b
-unfolding encipher
-encipher_more t m zero keys b h = absurd (h refl)
-encipher_more t m (suc r) keys b h =
-    let e : suc r - 1 ≡ r = omega arith in
-    ap (λ n. encipher t m n (drop (8 * t) keys) (round t m (take (8 * t) keys) b)) e
-
-pub decipher_none : (t : ℕ) (m : List (List ℕ)) (r : ℕ) (keys b : List ℕ) → r ≡ 0 → xor b keys ≡ decipher t m r keys b
-unfolding decipher
-decipher_none t m zero keys b e = refl
-decipher_none t m (suc r) keys b e = absurd (omega arith)
-
-pub decipher_more : (t : ℕ) (m : List (List ℕ)) (r : ℕ) (keys b : List ℕ) → (r ≢ 0)
-    → round_back t m (take (8 * t) keys) (decipher t m (r - 1) (drop (8 * t) keys) b) ≡ decipher t m r keys b
-unfolding decipher
-decipher_more t m zero keys b h = absurd (h refl)
-decipher_more t m (suc r) keys b h =
-    let e : suc r - 1 ≡ r = omega arith in
-    ap (λ n. round_back t m (take (8 * t) keys) (decipher t m n (drop (8 * t) keys) b)) e

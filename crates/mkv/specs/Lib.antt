@@ -3,6 +3,7 @@ pub mod Steps
 pub mod Cipher
 pub mod Keys
 pub mod Versions
+pub mod Meant
 pub mod Trace
 pub mod Widths
 pub mod StepsLemmas

@@ -3,25 +3,27 @@ use Rattle.std.specs.Prelude.{◌≡◌, ℕ, ◌*◌, Bool, cond, not, ◌||◌
 use Rattle.refusal.specs.declared.Refusal.{Refusal}
 use Rattle.refusal.specs.declared.Refusal.TheVariants.{Block}
 use Rattle.block.specs.Bytes.{xor}
+use Rattle.block.specs.Table.{sub}
 use Rattle.field.specs.Known.{m4, m4_inverse, m8, m8_inverse}
-use Rattle.mkv.specs.Steps.{sub_cells, sub_cells_back, mix_words, x_words, half_a, half_b, round, round_back}
+use Rattle.mkv.specs.Tables.{s, s_inverse}
+use Rattle.mkv.specs.Steps.{mix_words, x_words, half_a, half_b, round, round_back}
 use Rattle.mkv.specs.declared.Step.{Step}
 use Rattle.mkv.specs.declared.Step.TheVariants.{XorA, SubCells, MixWords, XorB, XWords}
 
--- one step of the round with a key (A, B), and one step of the round undone
+-- one step with a key (A, B), by a table for SubCells and a matrix for MixWords
+abbrev pub stepped : List ℕ → ℕ → List (List ℕ) → Step → List ℕ → List ℕ → List ℕ
+stepped table t m XorA key b = xor b (half_a t key)
+stepped table t m SubCells key b = sub table b
+stepped table t m MixWords key b = mix_words t m b
+stepped table t m XorB key b = xor b (half_b t key)
+stepped table t m XWords key b = x_words t b
+
+-- one step of the round, and one step of the round undone
 abbrev pub forward : ℕ → List (List ℕ) → Step → List ℕ → List ℕ → List ℕ
-forward t m XorA key b = xor b (half_a t key)
-forward t m SubCells key b = sub_cells b
-forward t m MixWords key b = mix_words t m b
-forward t m XorB key b = xor b (half_b t key)
-forward t m XWords key b = x_words t b
+forward t m x key b = stepped s t m x key b
 
 abbrev pub backward : ℕ → List (List ℕ) → Step → List ℕ → List ℕ → List ℕ
-backward t n XorA key b = xor b (half_a t key)
-backward t n SubCells key b = sub_cells_back b
-backward t n MixWords key b = mix_words t n b
-backward t n XorB key b = xor b (half_b t key)
-backward t n XWords key b = x_words t b
+backward t n x key b = stepped s_inverse t n x key b
 
 -- steps in a row
 abbrev pub run : (Step → List ℕ → List ℕ) → List Step → List ℕ → List ℕ
@@ -44,9 +46,12 @@ pub record StepsMakeRounds : Type 0 where
 abbrev pub step_checks : ℕ → ℕ → List (Bool × Refusal)
 step_checks key b = (not (b == 16 || b == 32), Block) ∷ (not (key == 2 * b), Block) ∷ []
 
--- the step at the width of the block
+-- the step at the width of the block, by the matrices of both widths
+abbrev pub stepped_at : List ℕ → List (List ℕ) → List (List ℕ) → Step → List ℕ → List ℕ → List ℕ
+stepped_at table narrow wide x key b = cond (length b == 16) (stepped table 4 narrow x key b) (stepped table 8 wide x key b)
+
 abbrev pub at_width : Step → List ℕ → List ℕ → List ℕ
-at_width x key b = cond (length b == 16) (forward 4 m4 x key b) (forward 8 m8 x key b)
+at_width x key b = stepped_at s m4 m8 x key b
 
 abbrev pub at_width_back : Step → List ℕ → List ℕ → List ℕ
-at_width_back x key b = cond (length b == 16) (backward 4 m4_inverse x key b) (backward 8 m8_inverse x key b)
+at_width_back x key b = stepped_at s_inverse m4_inverse m8_inverse x key b

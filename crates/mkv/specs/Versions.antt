@@ -1,10 +1,7 @@
 -- MKV as a kit, with words of t bytes, and its two widths. Assumes nothing.
 use Rattle.std.specs.Prelude.{ℕ, ◌+◌, ◌*◌, ◌/◌, cond, List, [], length, Some, None, Ok, Err, Option, Result, ◌==◌}
 use Rattle.refusal.specs.declared.KeyFault.{KeyFault}
-use Rattle.refusal.specs.declared.Refusal.{Refusal}
-use Rattle.refusal.specs.Checks.{first}
 use Rattle.kit.specs.Meaning.{Meaning}
-use Rattle.kit.specs.Calls.{expand_checks, cipher_checks}
 use Rattle.field.specs.Known.{m4, m4_inverse, m8, m8_inverse}
 use Rattle.mkv.specs.Cipher.{encipher, decipher}
 use Rattle.mkv.specs.Keys.{schedule as round_keys}
@@ -38,14 +35,6 @@ dec t n len s b = under (rounds t len) (λ r. decipher t n r s b) b
 
 abbrev pub mkv : ℕ → List (List ℕ) → List (List ℕ) → Meaning
 mkv t m n = record { width = 4 * t; need = need t; schedule = schedule t m; enc = enc t m; dec = dec t n }
-
--- what a call on a schedule and a block is refused with, if it is
-abbrev pub due : ℕ → ℕ → List ℕ → List ℕ → Option Refusal
-due t len s b = first (cipher_checks (4 * t) (need t len) (length s) (length b))
-
--- the same of a call that writes a schedule
-abbrev pub expand_due : ℕ → List ℕ → List ℕ → Option Refusal
-expand_due t key out = first (expand_checks (need t (length key)) (length out))
 
 abbrev pub mkv_128 : Meaning
 mkv_128 = mkv 4 m4 m4_inverse

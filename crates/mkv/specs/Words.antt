@@ -1,13 +1,12 @@
 -- XWords: the four words of a block, and that XWords undoes itself. Assumes nothing.
-use Rattle.std.specs.Prelude.{◌≡◌, ℕ, ◌+◌, ◌*◌, ◌<◌, ◌≤◌, List, [], ◌++◌, length, take, drop, bit_xor, slice_index, refl}
+use Rattle.std.specs.Prelude.{◌≡◌, ℕ, ◌+◌, ◌*◌, ◌<◌, ◌≤◌, List, ◌++◌, length, take, drop}
 use Rattle.std.proofs.Math.Path.{sym, ap}
 use Rattle.std.proofs.Common.{ap₂, ◌∙◌, zero-mul, one-mul, length-append}
 use native.Mathlib.Omega.{arith}
-use Rattle.std.proofs.lemmas.List.{length-drop, length-take-le, take_at, drop_at, take-append-drop, drop-drop, append_assoc, append-nil, take_all, drop_all}
-use borrow.Rule.Slice.PartMut.{put_mid}
+use Rattle.std.proofs.lemmas.List.{length-drop, length-take-le, take_at, drop_at, take-append-drop, drop-drop, take_all}
 use Rattle.block.specs.Bytes.{Block, xor}
 use Rattle.block.specs.Words.{word}
-use Rattle.block.proofs.Xor.{associates, commutes, cancels, cancels_both, length_xor, get_or_xor, block_xor}
+use Rattle.block.proofs.Xor.{associates, commutes, cancels, cancels_both, length_xor, block_xor}
 use Rattle.block.proofs.Parts.{bytes_append, bytes_take, bytes_drop}
 use Rattle.block.proofs.Words.{word_end}
 use Rattle.mkv.specs.Steps.{three, x_words}
@@ -75,7 +74,7 @@ joined_words t b e =
     ∙ take-append-drop t b
 
 -- a + (b + c) = b + (a + c)
-swap : (a b c : List ℕ) → xor a (xor b c) ≡ xor b (xor a c)
+pub swap : (a b c : List ℕ) → xor a (xor b c) ≡ xor b (xor a c)
 swap a b c = sym (associates a b c) ∙ ap (λ x. xor x c) (commutes a b) ∙ associates b a c
 
 -- a + (b + c) = c + (a + b)
@@ -156,38 +155,3 @@ x_words_back t b e =
     (ap₂ ◌++◌ (ap₂ xor f0 (ap₂ xor f2 f3) ∙ c)
     (ap₂ ◌++◌ (ap₂ xor f0 (ap₂ xor f1 f3) ∙ d) (ap₂ xor f0 (ap₂ xor f1 f2) ∙ f)))
     ∙ joined_words t b e
-
--- ---- the code of XWords
-
--- a word written behind what is there
-put_next : (p rest w : List ℕ) (o k : ℕ) → length p ≡ o → put_mid o k (p ++ rest) w ≡ (p ++ w) ++ drop k rest
-put_next p rest w o k lp =
-    ap₂ (λ x y. x ++ (w ++ drop k y)) (take_at p rest o lp) (drop_at p rest o lp) ∙ sym (append_assoc p w (drop k rest))
-
--- four words written one after another
-pub four_written : (t : ℕ) (x a b c d : List ℕ) → length x ≡ 4 * t → length a ≡ t → length b ≡ t → length c ≡ t → length d ≡ t
-    → (k1 k2 k3 k4 : ℕ) → k1 ≡ t → k2 ≡ t → k3 ≡ t → k4 ≡ t
-    → put_mid (3 * t) k4 (put_mid (2 * t) k3 (put_mid t k2 (a ++ drop k1 x) b) c) d ≡ a ++ (b ++ (c ++ d))
-four_written t x a b c d lx la lb lc ld k1 k2 k3 k4 e1 e2 e3 e4 =
-    let r1 = drop k1 x in
-    let r2 = drop k2 r1 in
-    let r3 = drop k3 r2 in
-    let lab : length (a ++ b) ≡ 2 * t = simp length-append (omega arith) in
-    let labc : length ((a ++ b) ++ c) ≡ 3 * t = simp length-append (omega arith) in
-    let nothing : drop k4 r3 ≡ [] = drop_all k4 r3 (simp length-drop (omega arith)) in
-    ap (λ l. put_mid (3 * t) k4 (put_mid (2 * t) k3 l c) d) (put_next a r1 b t k2 la)
-    ∙ ap (λ l. put_mid (3 * t) k4 l d) (put_next (a ++ b) r2 c (2 * t) k3 lab)
-    ∙ put_next ((a ++ b) ++ c) r3 d (3 * t) k4 labc
-    ∙ ap (λ l. (((a ++ b) ++ c) ++ d) ++ l) nothing ∙ append-nil (((a ++ b) ++ c) ++ d)
-    ∙ append_assoc (a ++ b) c d ∙ append_assoc a b (c ++ d)
-
-pub x_words_is : (t : ℕ) (x : List ℕ) → three t 1 2 3 x ++ (three t 0 2 3 x ++ (three t 0 1 3 x ++ three t 0 1 2 x)) ≡ x_words t x
-unfolding x_words
-x_words_is t x = refl
-
--- the XOR of three words, at one place
-pub get_or_three : (t i j k : ℕ) (b : List ℕ) (x : ℕ)
-    → slice_index (three t i j k b) x ≡ bit_xor (slice_index (word t i b) x) (bit_xor (slice_index (word t j b) x) (slice_index (word t k b) x))
-unfolding three
-get_or_three t i j k b x =
-    get_or_xor (word t i b) (xor (word t j b) (word t k b)) x ∙ ap (bit_xor (slice_index (word t i b) x)) (get_or_xor (word t j b) (word t k b) x)

@@ -3,23 +3,30 @@
 // Rests on the interface (kit), the round (round) and the key schedule (schedule).
 #![tactic(auto)]
 
-ghost use Rattle.std.specs.Prelude.{◌≡◌, ◌+◌, ◌*◌, ◌⊎◌, length, IfOk, Some};
+ghost use Rattle.std.specs.Prelude.{◌≡◌, ◌+◌, ◌*◌, length, IfOk, Some};
 ghost use Rattle.refusal.specs.Checks.{first, refusal};
-ghost use Rattle.kit.specs.Calls.{told, expand_checks, unless};
+ghost use Rattle.block.specs.Table.{sub};
+ghost use Rattle.kit.specs.Calls.{told, unless, expand_checks, expand_refusal, cipher_refusal, expanded, enciphered, deciphered};
 ghost use Rattle.mkv.specs.Tables.{Tables};
-ghost use Rattle.mkv.specs.Trace.{forward, backward, forth, at_width, at_width_back, step_checks, StepsMakeRounds};
-ghost use Rattle.mkv.specs.Versions.{rounds as rounds_of, need as needed, due, expand_due, schedule as key_schedule, enc, dec, mkv_128, mkv_256};
+ghost use Rattle.mkv.specs.Trace.{stepped, forth, stepped_at, at_width, at_width_back, step_checks, StepsMakeRounds};
+ghost use Rattle.mkv.specs.Meant.{meant};
+ghost use Rattle.mkv.specs.Versions.{rounds as rounds_of, need as needed, mkv_128, mkv_256};
 ghost use Rattle.mkv.specs.Widths.{sound_128, sound_256};
 ghost use Rattle.std.proofs.Common.{rules};
 
+use block::{substitute, xor_whole};
 use kit::{Kit, Narrow, Wide};
 use refusal::{KeyFault, Refusal};
-use round::{add_key, mix_words, run_rounds, sub_cells, sub_cells_back, undo_rounds, x_words};
+use round::{mix_words, run_rounds, undo_rounds, x_words};
 use schedule::write_schedule;
+use tables::{M4, M4_INVERSE, M8, M8_INVERSE, Matrix, NARROW, S, S_INVERSE, Version, WIDE};
 
 mod round;
 mod schedule;
 mod tables;
+
+// Two impls that hand on to one text: a single impl, for a type over T, would need a trait for the width, the matrices and their laws,
+// with two impls of its own.
 
 // The kit of blocks of 16 bytes; keys of 16, 24 or 32 bytes.
 #[derive(Clone, Copy)]
@@ -29,6 +36,7 @@ pub struct Mkv128;
 #[derive(Clone, Copy)]
 pub struct Mkv256;
 
+#[tactic(auto, unfolding(field::specs::Known::m4, field::specs::Known::m4_inverse))]
 impl Kit for Mkv128 {
     type Width = Narrow;
 
@@ -39,22 +47,23 @@ impl Kit for Mkv128 {
     ghost sound = { λ k. sound_128 };
 
     fn need(&self, len: usize) -> Result<usize, Refusal> {
-        cells_for::<4>(len)
+        NARROW.need(len)
     }
 
     fn expand(&self, key: &[u8], schedule: &mut [u8]) -> Result<(), Refusal> {
-        expand_with(&tables::M4, key, schedule)
+        NARROW.expand(key, schedule)
     }
 
     fn encipher(&self, len: usize, schedule: &[u8], block: &mut [u8]) -> Result<(), Refusal> {
-        encipher_with(&tables::M4, len, schedule, block)
+        NARROW.encipher(len, schedule, block)
     }
 
     fn decipher(&self, len: usize, schedule: &[u8], block: &mut [u8]) -> Result<(), Refusal> {
-        decipher_with(&tables::M4_INVERSE, len, schedule, block)
+        NARROW.decipher(len, schedule, block)
     }
 }
 
+#[tactic(auto, unfolding(field::specs::Known::m8, field::specs::Known::m8_inverse))]
 impl Kit for Mkv256 {
     type Width = Wide;
 
@@ -65,120 +74,89 @@ impl Kit for Mkv256 {
     ghost sound = { λ k. sound_256 };
 
     fn need(&self, len: usize) -> Result<usize, Refusal> {
-        cells_for::<8>(len)
+        WIDE.need(len)
     }
 
     fn expand(&self, key: &[u8], schedule: &mut [u8]) -> Result<(), Refusal> {
-        expand_with(&tables::M8, key, schedule)
+        WIDE.expand(key, schedule)
     }
 
     fn encipher(&self, len: usize, schedule: &[u8], block: &mut [u8]) -> Result<(), Refusal> {
-        encipher_with(&tables::M8, len, schedule, block)
+        WIDE.encipher(len, schedule, block)
     }
 
     fn decipher(&self, len: usize, schedule: &[u8], block: &mut [u8]) -> Result<(), Refusal> {
-        decipher_with(&tables::M8_INVERSE, len, schedule, block)
+        WIDE.decipher(len, schedule, block)
     }
 }
 
-// The rounds for a key of `len` bytes.
-fn rounds_for<const T: usize>(len: usize) -> Option<usize>
-    requires { (T ≡ 4) ⊎ (T ≡ 8) }
-    ensures { result ≡ rounds_of T len }
-{
-    if len == 4 * T {
-        Some(6)
-    } else if len == 6 * T {
-        Some(7)
-    } else if len == 8 * T {
-        Some(8)
-    } else {
-        None
+// The calls of both kits.
+impl<const T: usize> Version<T> {
+    // The rounds for a key of `len` bytes, by its words.
+    fn rounds(&self, len: usize) -> Option<usize>
+        ensures { result ≡ rounds_of T len }
+    {
+        match (len / T, len % T) {
+            (4, 0) => Some(6),
+            (6, 0) => Some(7),
+            (8, 0) => Some(8),
+            _ => None,
+        }
     }
-}
 
-// The cells for a key of `len` bytes.
-fn cells_for<const T: usize>(len: usize) -> Result<usize, Refusal>
-    requires { (T ≡ 4) ⊎ (T ≡ 8) }
-    ensures { result ≡ told (needed T len) }
-{
-    match rounds_for::<T>(len) {
-        Some(rounds) => Ok((2 * rounds + 1) * (T / 4)),
-        None => Err(Refusal::Key(KeyFault {
-            depth: 0,
-            length: len,
-        })),
+    // The cells for a key of `len` bytes.
+    fn need(&self, len: usize) -> Result<usize, Refusal>
+        ensures { result ≡ told (needed T len) }
+    {
+        let rounds = self.rounds(len).ok_or(KeyFault::here(len))?;
+        Ok((2 * rounds + 1) * (T / 4))
     }
-}
 
-// The rounds for a key of `len` bytes and a schedule of so many.
-fn rounds_at<const T: usize>(len: usize, schedule: usize) -> Result<usize, Refusal>
-    requires { (T ≡ 4) ⊎ (T ≡ 8) }
-    ensures outcome { refusal result ≡ first (expand_checks (needed T len) schedule) }
-    ensures passed { IfOk result (λ n. (rounds_of T len ≡ Some n) × (schedule ≡ n * (8 * T) + 4 * T)) }
-{
-    let Some(rounds) = rounds_for::<T>(len) else {
-        return Err(Refusal::Key(KeyFault {
-            depth: 0,
-            length: len,
-        }));
-    };
-    if schedule != (2 * rounds + 1) * (4 * T) {
-        return Err(Refusal::Block);
+    // The rounds for a key of `len` bytes and a schedule of so many.
+    fn rounds_at(&self, len: usize, schedule: usize) -> Result<usize, Refusal>
+        ensures outcome { refusal result ≡ first (expand_checks (needed T len) schedule) }
+        ensures passed { IfOk result (λ n. (rounds_of T len ≡ Some n) × (schedule ≡ n * (8 * T) + 4 * T)) }
+    {
+        let rounds = self.rounds(len).ok_or(KeyFault::here(len))?;
+        if schedule != (2 * rounds + 1) * (4 * T) {
+            return Err(Refusal::Block);
+        }
+        Ok(rounds)
     }
-    Ok(rounds)
-}
 
-// Writes the schedule of `key`.
-fn expand_with<const T: usize>(m: &[[u8; T]], key: &[u8], out: &mut [u8]) -> Result<(), Refusal>
-    requires square { length m.now ≡ T }
-    requires size { (T ≡ 4) ⊎ (T ≡ 8) }
-    ensures outcome { refusal result ≡ expand_due T key.now out.old }
-    ensures written { out.new ≡ unless (expand_due T key.now out.old) (key_schedule T m.now key.now) out.old }
-{
-    let rounds = rounds_at::<T>(key.len(), out.len())?;
-    write_schedule(m, rounds, key, out);
-    Ok(())
-}
-
-// Enciphers a block; `m` is the matrix of MixWords.
-fn encipher_with<const T: usize>(
-    m: &[[u8; T]],
-    len: usize,
-    schedule: &[u8],
-    block: &mut [u8],
-) -> Result<(), Refusal>
-    requires square { length m.now ≡ T }
-    requires size { (T ≡ 4) ⊎ (T ≡ 8) }
-    ensures outcome { refusal result ≡ due T len schedule.now block.old }
-    ensures written { block.new ≡ unless (due T len schedule.now block.old) (enc T m.now len schedule.now block.old) block.old }
-{
-    let rounds = rounds_at::<T>(len, schedule.len())?;
-    if block.len() != 4 * T {
-        return Err(Refusal::Block);
+    // Writes the schedule of `key`.
+    fn expand(&self, key: &[u8], schedule: &mut [u8]) -> Result<(), Refusal>
+        ensures outcome { refusal result ≡ expand_refusal (meant T self.now) key.now schedule.old }
+        ensures written { schedule.new ≡ expanded (meant T self.now) key.now schedule.old }
+    {
+        let rounds = self.rounds_at(key.len(), schedule.len())?;
+        write_schedule(&self.matrix, rounds, key, schedule);
+        Ok(())
     }
-    run_rounds(m, rounds, schedule, block);
-    Ok(())
-}
 
-// Deciphers a block; `m` is the inverse matrix.
-fn decipher_with<const T: usize>(
-    m: &[[u8; T]],
-    len: usize,
-    schedule: &[u8],
-    block: &mut [u8],
-) -> Result<(), Refusal>
-    requires square { length m.now ≡ T }
-    requires size { (T ≡ 4) ⊎ (T ≡ 8) }
-    ensures outcome { refusal result ≡ due T len schedule.now block.old }
-    ensures written { block.new ≡ unless (due T len schedule.now block.old) (dec T m.now len schedule.now block.old) block.old }
-{
-    let rounds = rounds_at::<T>(len, schedule.len())?;
-    if block.len() != 4 * T {
-        return Err(Refusal::Block);
+    fn encipher(&self, len: usize, schedule: &[u8], block: &mut [u8]) -> Result<(), Refusal>
+        ensures outcome { refusal result ≡ cipher_refusal (meant T self.now) len schedule.now block.old }
+        ensures written { block.new ≡ enciphered (meant T self.now) len schedule.now block.old }
+    {
+        let rounds = self.rounds_at(len, schedule.len())?;
+        if block.len() != 4 * T {
+            return Err(Refusal::Block);
+        }
+        run_rounds(&self.matrix, rounds, schedule, block);
+        Ok(())
     }
-    undo_rounds(m, rounds, schedule, block);
-    Ok(())
+
+    fn decipher(&self, len: usize, schedule: &[u8], block: &mut [u8]) -> Result<(), Refusal>
+        ensures outcome { refusal result ≡ cipher_refusal (meant T self.now) len schedule.now block.old }
+        ensures written { block.new ≡ deciphered (meant T self.now) len schedule.now block.old }
+    {
+        let rounds = self.rounds_at(len, schedule.len())?;
+        if block.len() != 4 * T {
+            return Err(Refusal::Block);
+        }
+        undo_rounds(&self.inverse, rounds, schedule, block);
+        Ok(())
+    }
 }
 
 // The steps of a round; SubCells comes twice.
@@ -197,86 +175,72 @@ pub enum Step {
 pub fn round_steps() -> [Step; 6]
     ensures { result ≡ forth }
 {
-    use Step::MixWords;
-    use Step::SubCells;
-    use Step::XWords;
-    use Step::XorA;
-    use Step::XorB;
+    use Step::{MixWords, SubCells, XWords, XorA, XorB};
     [XorA, SubCells, MixWords, XorB, SubCells, XWords]
 }
 
-// One step of the round.
-fn step_with<const T: usize>(m: &[[u8; T]], step: Step, key: &[u8], block: &mut [u8])
-    requires square { length m.now ≡ T }
+// One step of the round, or of the round undone, by the table and the matrix of that way.
+#[tactic(auto, unfolding(crate::specs::Steps::half_a, crate::specs::Steps::half_b))]
+fn step_with<const T: usize>(
+    table: &[u8; 256],
+    m: &Matrix<T>,
+    step: Step,
+    key: &[u8],
+    block: &mut [u8],
+)
     requires two { length key.now ≡ 8 * T }
     requires width { length block.old ≡ 4 * T }
-    ensures { block.new ≡ forward T m.now step key.now block.old }
+    ensures { block.new ≡ stepped table.now T m.now.rows step key.now block.old }
 {
     let (a, b) = key.split_at(4 * T);
     match step {
-        Step::XorA => add_key(block, a),
-        Step::SubCells => sub_cells(block),
+        Step::XorA => xor_whole(block, a),
+        Step::SubCells => substitute(table, block),
         Step::MixWords => mix_words(m, block),
-        Step::XorB => add_key(block, b),
+        Step::XorB => xor_whole(block, b),
         Step::XWords => x_words::<T>(block),
     }
 }
 
-// One step of the round undone; `m` is the inverse matrix.
-fn unstep_with<const T: usize>(m: &[[u8; T]], step: Step, key: &[u8], block: &mut [u8])
-    requires square { length m.now ≡ T }
-    requires two { length key.now ≡ 8 * T }
-    requires width { length block.old ≡ 4 * T }
-    ensures { block.new ≡ backward T m.now step key.now block.old }
+// The same at the width that the block has, by the matrices of both widths.
+fn step_at(
+    table: &[u8; 256],
+    narrow: &Matrix<4>,
+    wide: &Matrix<8>,
+    step: Step,
+    key: &[u8],
+    block: &mut [u8],
+) -> Result<(), Refusal>
+    ensures outcome { refusal result ≡ first (step_checks (length key.now) (length block.old)) }
+    ensures written { block.new ≡ unless (first (step_checks (length key.now) (length block.old))) (stepped_at table.now narrow.now.rows wide.now.rows step key.now block.old) block.old }
 {
-    let (a, b) = key.split_at(4 * T);
-    match step {
-        Step::XorA => add_key(block, a),
-        Step::SubCells => sub_cells_back(block),
-        Step::MixWords => mix_words(m, block),
-        Step::XorB => add_key(block, b),
-        Step::XWords => x_words::<T>(block),
+    if key.len() / 2 != block.len() || key.len() % 2 != 0 {
+        return Err(Refusal::Block);
     }
+    match block.len() {
+        16 => step_with(table, narrow, step, key, block),
+        32 => step_with(table, wide, step, key, block),
+        _ => return Err(Refusal::Block),
+    }
+    Ok(())
 }
 
 // One step of the round with a key of two blocks, at the width that the block has.
+#[tactic(auto, unfolding(crate::specs::Tables::s, field::specs::Known::m4, field::specs::Known::m8))]
 pub fn apply_step(step: Step, key: &[u8], block: &mut [u8]) -> Result<(), Refusal>
     ensures outcome { refusal result ≡ first (step_checks (length key.now) (length block.old)) }
     ensures written { block.new ≡ unless (first (step_checks (length key.now) (length block.old))) (at_width step key.now block.old) block.old }
 {
-    let width = block.len();
-    if width != 16 && width != 32 {
-        return Err(Refusal::Block);
-    }
-    if key.len() != 2 * width {
-        return Err(Refusal::Block);
-    }
-    if width == 16 {
-        step_with(&tables::M4, step, key, block);
-    } else {
-        step_with(&tables::M8, step, key, block);
-    }
-    Ok(())
+    step_at(&S, &M4, &M8, step, key, block)
 }
 
 // One step of the round undone.
+#[tactic(auto, unfolding(crate::specs::Tables::s_inverse, field::specs::Known::m4_inverse, field::specs::Known::m8_inverse))]
 pub fn undo_step(step: Step, key: &[u8], block: &mut [u8]) -> Result<(), Refusal>
     ensures outcome { refusal result ≡ first (step_checks (length key.now) (length block.old)) }
     ensures written { block.new ≡ unless (first (step_checks (length key.now) (length block.old))) (at_width_back step key.now block.old) block.old }
 {
-    let width = block.len();
-    if width != 16 && width != 32 {
-        return Err(Refusal::Block);
-    }
-    if key.len() != 2 * width {
-        return Err(Refusal::Block);
-    }
-    if width == 16 {
-        unstep_with(&tables::M4_INVERSE, step, key, block);
-    } else {
-        unstep_with(&tables::M8_INVERSE, step, key, block);
-    }
-    Ok(())
+    step_at(&S_INVERSE, &M4_INVERSE, &M8_INVERSE, step, key, block)
 }
 
 // The two tables lead back from one another, at every byte; and the steps make up the round, and the round undone.

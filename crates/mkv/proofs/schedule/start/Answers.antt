@@ -1,18 +1,15 @@
-use Rattle.std.proofs.Common.{◌≡◌, length, sym, ◌∙◌, arith}
-use Rattle.block.proofs.Loops.{over_more, over_whole}
+use Rattle.std.proofs.Common.{◌≡◌, ◌-◌, ◌*◌, ◌++◌, map, length, drop, ap, ◌∙◌, ap₂, arith, length-drop}
+use Rattle.std.proofs.lemmas.List.{take_all}
 use Rattle.mkv.specs.Keys.{start_right}
-use Rattle.mkv.specs.KeysLemmas.{length_start}
 use Rattle.mkv.proofs.schedule.start.Goals as goal
 
-pub loop-j-preserved : goal.loop-j-preserved
-loop-j-preserved g c =
-    let e : length (start_right g.row.T c.args.key.now) ≡ length c.args.right.now =
-    length_start g.row.T c.args.key.now (omega arith) (omega arith) ∙ sym c.requires.width in
-    over_more (start_right g.row.T c.args.key.now) c.args.right.now c.loop-j.right c.loop-j.j c.right_byte.result
-    c.loop-j.invariant c.loop-j-test.true e c.right_byte.ensures
-
 pub returns : goal.returns
+unfolding start_right
 returns g c =
-    let e : length (start_right g.row.T c.args.key.now) ≡ length c.args.right.now =
-    length_start g.row.T c.args.key.now (omega arith) (omega arith) ∙ sym c.requires.width in
-    c.loop-j.invariant ∙ over_whole (start_right g.row.T c.args.key.now) c.args.right.now c.loop-j.j c.loop-j-test.false e
+    let parts = c.split_at.ensures in
+    let first = c.split_at.result.0.now in
+    let others = length c.split_at.result.1.now in
+    let k : others ≡ length c.args.key.now - 4 * g.row.T = omega (arith, parts.back_len) in
+    ap₂ ◌++◌ (c.copy_from_slice.ensures.after ∙ parts.back)
+    (c.complement.ensures
+    ∙ ap (map (λ x. 255 - x)) (c.copy_from_slice-2.ensures.after ∙ take_all (length first - others) (drop others first) (simp length-drop (omega arith)) ∙ ap₂ drop k parts.front))

@@ -1,18 +1,14 @@
-use Rattle.std.proofs.Common.{◌*◌, ◌≤◌, ap, ◌∙◌, ap₂, arith, rules}
+use Rattle.std.proofs.Common.{ap, ◌∙◌, ap₂, arith}
 use Rattle.mkv.specs.Steps.{round}
 use Rattle.mkv.specs.Keys.{stirred}
-use Rattle.mkv.specs.KeysLemmas.{zeros_part, number_part}
+use Rattle.mkv.proofs.KeyCode.{zeros_is, number_is}
 use Rattle.mkv.proofs.schedule.stir.Goals as goal
-
-pub slice_bounds-round-end : goal.slice_bounds-round-end
-slice_bounds-round-end g c =
-    let h : 8 * g.row.T ≤ 64 = omega arith in
-    search rules
 
 pub returns : goal.returns
 unfolding stirred
 returns g c =
-    let m = c.args.m.now in
+    let t = g.row.T in
+    let m = c.args.m.now.rows in
     c.round-2.ensures
-    ∙ ap₂ (round g.row.T m) (zeros_part g.row.T (omega arith))
-    (c.round.ensures ∙ ap (λ k. round g.row.T m k c.args.block.now) (number_part g.row.T c.args.n (omega arith)))
+    ∙ ap₂ (round t m) (c.as_flattened-2.ensures.value ∙ zeros_is t)
+    (c.round.ensures ∙ ap (λ k. round t m k c.args.block.now) (c.as_flattened.ensures.value ∙ number_is t c.args.n (omega arith)))

@@ -1,6 +1,0 @@
-use Rattle.std.proofs.Common.{◌∙◌}
-use Rattle.block.proofs.Xor.{xor_whole}
-use Rattle.mkv.proofs.round.add_key.Goals as goal
-
-pub returns : goal.returns
-returns c = c.xor_into.ensures ∙ xor_whole c.args.block.now c.args.key.now c.requires
