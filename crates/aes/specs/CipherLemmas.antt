@@ -1,6 +1,6 @@
 -- The inverse cipher undoes the cipher and is undone by it, under every schedule. Assumes nothing.
 use Rattle.std.specs.Prelude.{◌≡◌, ℕ, zero, suc, ◌+◌, ◌-◌, ◌*◌, ◌<◌, ◌≤◌, List, length, drop}
-use Rattle.std.proofs.Math.Path.{refl, ap}
+use Rattle.std.proofs.Math.Path.{refl, ap, sym}
 use Rattle.std.proofs.Common.{◌∙◌, arith}
 use Rattle.std.proofs.lemmas.List.{length-drop, length-take-le}
 use Rattle.block.specs.Bytes.{Block}
@@ -153,16 +153,18 @@ pub rounds_none : (keys b : List ℕ) → b ≡ rounds 0 keys b
 unfolding rounds
 rounds_none keys b = refl
 
-pub rounds_more : (r : ℕ) (keys b : List ℕ) → 1 ≤ r → round (round_key r keys) (rounds (r - 1) keys b) ≡ rounds r keys b
+pub rounds_more : (n : ℕ) (keys b : List ℕ) → round (round_key (n + 1) keys) (rounds n keys b) ≡ rounds (n + 1) keys b
 unfolding rounds
-rounds_more zero keys b h = absurd (omega arith)
-rounds_more (suc n) keys b h = let e : suc n - 1 ≡ n = omega arith in ap (λ k. round (round_key (suc n) keys) (rounds k keys b)) e
+rounds_more n keys b =
+    let e : n + 1 ≡ suc n = omega arith in
+    ap (λ k. round (round_key k keys) (rounds n keys b)) e ∙ sym (ap (λ k. rounds k keys b) e)
 
 pub inv_rounds_none : (n : ℕ) (keys b : List ℕ) → n ≡ 0 → inv_rounds n keys b ≡ b
 unfolding inv_rounds
 inv_rounds_none n keys b e = ap (λ k. inv_rounds k keys b) e
 
-pub inv_rounds_more : (n : ℕ) (keys b : List ℕ) → 1 ≤ n → inv_rounds (n - 1) keys (inv_round (round_key n keys) b) ≡ inv_rounds n keys b
+pub inv_rounds_more : (n : ℕ) (keys b : List ℕ) → inv_rounds n keys (inv_round (round_key (n + 1) keys) b) ≡ inv_rounds (n + 1) keys b
 unfolding inv_rounds
-inv_rounds_more zero keys b h = absurd (omega arith)
-inv_rounds_more (suc n) keys b h = let e : suc n - 1 ≡ n = omega arith in ap (λ k. inv_rounds k keys (inv_round (round_key (suc n) keys) b)) e
+inv_rounds_more n keys b =
+    let e : n + 1 ≡ suc n = omega arith in
+    ap (λ k. inv_rounds n keys (inv_round (round_key k keys) b)) e ∙ sym (ap (λ k. inv_rounds k keys b) e)

@@ -1,5 +1,5 @@
 -- The key expansion: its blocks, the rule of its words, and the code that writes it. Assumes nothing.
-use Rattle.std.specs.Prelude.{◌≡◌, ℕ, zero, suc, ◌+◌, ◌-◌, ◌*◌, ◌/◌, ◌%◌, ◌<◌, ◌≤◌, Bool, true, false, cond, ◌&&◌, ◌⊎◌, List, [], ◌∷◌, ◌++◌, length, take, drop, ◌==◌, ◌≢◌, nat_lt, slice_index, refl}
+use Rattle.std.specs.Prelude.{◌≡◌, ℕ, zero, suc, ◌+◌, ◌-◌, ◌*◌, ◌/◌, ◌%◌, ◌<◌, ◌≤◌, Bool, true, false, cond, ◌&&◌, ◌⊎◌, List, [], ◌∷◌, ◌++◌, length, take, drop, ◌==◌, ◌≢◌, nat_lt, refl}
 use Rattle.std.proofs.Math.Path.{sym, ap, ap₂}
 use Rattle.std.proofs.Common.{◌∙◌, subst}
 use Rattle.std.proofs.Math.Logic.{inl, inr}
@@ -11,7 +11,7 @@ use Rattle.block.specs.Bytes.{Block, xor}
 use Rattle.block.specs.Words.{word}
 use Rattle.block.proofs.Parts.{bytes_append, bytes_take, bytes_drop}
 use Rattle.block.proofs.Xor.{block_xor}
-use Rattle.block.proofs.Tables.{block_sub, length_sub}
+use Rattle.block.proofs.Tables.{block_sub}
 use Rattle.field.specs.Byte.{times_x}
 use Rattle.field.specs.Known.{aes_poly}
 use Rattle.field.proofs.Laws.{mul_lt}
@@ -146,24 +146,6 @@ pub x_power_more : (n p : ℕ) → p ≡ x_power n → times_x aes_poly p ≡ x_
 unfolding x_power
 x_power_more n p e = ap (times_x aes_poly) e ∙ ap x_power (let f : suc n ≡ n + 1 = omega arith in f)
 
--- a list of four
-pub four : (w : List ℕ) → length w ≡ 4 → slice_index w 0 ∷ slice_index w 1 ∷ slice_index w 2 ∷ slice_index w 3 ∷ [] ≡ w
-four [] e = absurd (omega arith)
-four (a ∷ []) e = absurd (omega arith)
-four (a ∷ b ∷ []) e = absurd (omega arith)
-four (a ∷ b ∷ c ∷ []) e = absurd (omega arith)
-four (a ∷ b ∷ c ∷ d ∷ []) e = refl
-four (a ∷ b ∷ c ∷ d ∷ x ∷ w) e = absurd (omega arith)
-
-pub four_rotated : (w : List ℕ) → length w ≡ 4 → slice_index w 1 ∷ slice_index w 2 ∷ slice_index w 3 ∷ slice_index w 0 ∷ [] ≡ rot_word w
-unfolding rot_word
-four_rotated [] e = absurd (omega arith)
-four_rotated (a ∷ []) e = absurd (omega arith)
-four_rotated (a ∷ b ∷ []) e = absurd (omega arith)
-four_rotated (a ∷ b ∷ c ∷ []) e = absurd (omega arith)
-four_rotated (a ∷ b ∷ c ∷ d ∷ []) e = refl
-four_rotated (a ∷ b ∷ c ∷ d ∷ x ∷ w) e = absurd (omega arith)
-
 pub words_none : (nk : ℕ) (key : List ℕ) → words nk 0 key ≡ key
 unfolding words
 words_none nk key = refl
@@ -195,11 +177,6 @@ changed_not nk i w d (inl l) =
 changed_not nk i w d (inr e) =
     cond-false (i % nk == 0) (xor (sub_word (rot_word w)) (rcon (i / nk))) (cond (nat_lt 6 nk && i % nk == 4) (sub_word w) w) (ne_eqb (i % nk) 0 d)
     ∙ cond-false (nat_lt 6 nk && i % nk == 4) (sub_word w) w (and_right (nat_lt 6 nk) (i % nk == 4) (ne_eqb (i % nk) 4 e))
-
-pub length_turned : (w : List ℕ) → length w ≡ 4 → length (sub_word (rot_word w)) ≡ 4
-unfolding sub_word rot_word
-length_turned w e =
-    length_sub s_box (drop 1 w ++ take 1 w) ∙ length-append (drop 1 w) (take 1 w) ∙ ap₂ ◌+◌ (length-drop 1 w) (length-take-le 1 w (omega arith)) ∙ omega arith
 
 pub rcon_is : (j p : ℕ) → p ≡ x_power (j - 1) → p ∷ 0 ∷ 0 ∷ 0 ∷ [] ≡ rcon j
 unfolding rcon

@@ -1,8 +1,11 @@
 -- AES is sound as a kit. Assumes nothing.
-use Rattle.std.specs.Prelude.{◌≡◌, ℕ, ◌+◌, ◌-◌, ◌*◌, ◌/◌, ◌<◌, ◌≤◌, cond, ◌⊎◌, List, [], length, Some, None, Ok, Option, ◌==◌, refl}
+use Rattle.std.specs.Prelude.{◌≡◌, ℕ, ◌+◌, ◌-◌, ◌*◌, ◌/◌, ◌<◌, ◌≤◌, Bool, true, false, cond, not, ◌⊎◌, List, [], ◌∷◌, length, Some, None, Ok, Option, ◌==◌, refl}
 use Rattle.std.proofs.Common.{sym, ap, ◌∙◌, subst, inl, inr, arith}
-use Rattle.std.proofs.lemmas.Bool.{cases_eq, eq-eqb, ne_eqb, cond-true, cond-false}
+use Rattle.std.proofs.lemmas.Bool.{cases_eq, eq-eqb, ne_eqb, eqb-true, cond-true, cond-false}
+use Rattle.refusal.specs.declared.Refusal.TheVariants.{Block as WrongSize}
+use Rattle.refusal.specs.Checks.{first}
 use Rattle.block.specs.Bytes.{Bytes, Block}
+use Rattle.kit.specs.Calls.{expand_checks}
 use Rattle.kit.specs.Meaning.{Sized, Sound}
 use Rattle.aes.specs.Cipher.{encipher, decipher}
 use Rattle.aes.specs.Keys.{schedule as round_keys, Expands}
@@ -65,6 +68,23 @@ accepted_by len k None e f = let z : ◌≡◌ {A = ℕ} 0 1 = cc in absurd (ome
 
 accepted : (len k : ℕ) → need len ≡ Ok k → Accepted len k
 accepted len k e = accepted_by len k (rounds len) refl e
+
+-- a schedule that is not refused has a cell for each round key of its key
+pub record Fitted (len out : ℕ) : Type 0 where
+  pub r : ℕ
+  pub is : rounds len ≡ Some r
+  pub size : out ≡ 16 * (r + 1)
+
+size_due : (p : Bool) → first ((not p, WrongSize) ∷ []) ≡ None → p ≡ true
+size_due true e = refl
+size_due false e = let z : ◌≡◌ {A = ℕ} 0 1 = cc in absurd (omega arith)
+
+fitted_by : (len out : ℕ) (o : Option ℕ) → rounds len ≡ o → first (expand_checks (cells len o) out) ≡ None → Fitted len out
+fitted_by len out (Some r) e f = record { r = r; is = e; size = eqb-true out (16 * (r + 1)) (size_due (out == 16 * (r + 1)) f) }
+fitted_by len out None e f = let z : ◌≡◌ {A = ℕ} 0 1 = cc in absurd (omega arith)
+
+pub fitted : (len out : ℕ) → first (expand_checks (need len) out) ≡ None → Fitted len out
+fitted len out e = fitted_by len out (rounds len) refl e
 
 enc_is : (len r : ℕ) (s b : List ℕ) → rounds len ≡ Some r → aes.enc len s b ≡ encipher r s b
 enc_is len r s b q = ap (λ o. under o (λ k. encipher k s b) b) q

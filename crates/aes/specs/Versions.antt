@@ -1,6 +1,7 @@
 -- AES as a kit, with its three key lengths. Assumes nothing.
 use Rattle.std.specs.Prelude.{◌≡◌, ℕ, ◌+◌, ◌/◌, cond, List, [], length, Some, None, Ok, Err, Option, Result, ◌==◌}
 use Rattle.refusal.specs.declared.KeyFault.{KeyFault}
+use Rattle.refusal.specs.Faults.{here}
 use Rattle.block.specs.Bytes.{Bytes}
 use Rattle.kit.specs.Meaning.{Meaning}
 use Rattle.aes.specs.Cipher.{encipher, decipher}
@@ -13,7 +14,7 @@ rounds len = cond (len == 16) (Some 10) (cond (len == 24) (Some 12) (cond (len =
 -- a cell for each round key, and one for round key 0; another length is refused right here
 abbrev pub cells : ℕ → Option ℕ → Result ℕ KeyFault
 cells len (Some r) = Ok (r + 1)
-cells len None = Err (record { depth = 0; length = len })
+cells len None = Err (here len)
 
 abbrev pub need : ℕ → Result ℕ KeyFault
 need len = cells len (rounds len)

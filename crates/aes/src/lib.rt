@@ -24,9 +24,6 @@ mod round;
 mod schedule;
 mod tables;
 
-// The bytes of a block and of a round key.
-const WIDTH: usize = 16;
-
 // The kit of AES.
 #[derive(Clone, Copy)]
 pub struct Aes;
@@ -41,36 +38,27 @@ impl Kit for Aes {
     ghost sound = { λ k. Sound.sound };
 
     fn need(&self, len: usize) -> Result<usize, Refusal> {
-        match rounds_for(len) {
-            Some(rounds) => Ok(rounds + 1),
-            None => Err(Refusal::Key(KeyFault {
-                depth: 0,
-                length: len,
-            })),
-        }
+        let rounds = rounds_for(len).ok_or(KeyFault::here(len))?;
+        Ok(rounds + 1)
     }
 
     fn expand(&self, key: &[u8], schedule: &mut [u8]) -> Result<(), Refusal> {
-        let _rounds = rounds_at(key.len(), schedule.len())?;
+        fitting(key.len(), schedule.len())?;
         write_schedule(key, schedule);
         Ok(())
     }
 
     fn encipher(&self, len: usize, schedule: &[u8], block: &mut [u8]) -> Result<(), Refusal> {
-        let rounds = rounds_at(len, schedule.len())?;
-        if block.len() != WIDTH {
-            return Err(Refusal::Block);
-        }
-        run_rounds(rounds, schedule, block);
+        fitting(len, schedule.len())?;
+        let block = block.as_mut_array().ok_or(Refusal::Block)?;
+        run_rounds(schedule, block);
         Ok(())
     }
 
     fn decipher(&self, len: usize, schedule: &[u8], block: &mut [u8]) -> Result<(), Refusal> {
-        let rounds = rounds_at(len, schedule.len())?;
-        if block.len() != WIDTH {
-            return Err(Refusal::Block);
-        }
-        undo_rounds(rounds, schedule, block);
+        fitting(len, schedule.len())?;
+        let block = block.as_mut_array().ok_or(Refusal::Block)?;
+        undo_rounds(schedule, block);
         Ok(())
     }
 }
@@ -87,21 +75,14 @@ fn rounds_for(len: usize) -> Option<usize>
     }
 }
 
-// The rounds for a key of `len` bytes and a schedule of so many.
-fn rounds_at(len: usize, schedule: usize) -> Result<usize, Refusal>
-    ensures outcome { refusal result ≡ first (expand_checks (needed len) schedule) }
-    ensures passed { IfOk result (λ n. (rounds_of len ≡ Some n) × (schedule ≡ 16 * (n + 1))) }
+// Whether a schedule of so many bytes fits a key of `len` bytes.
+fn fitting(len: usize, schedule: usize) -> Result<(), Refusal>
+    ensures { refusal result ≡ first (expand_checks (needed len) schedule) }
 {
-    let Some(rounds) = rounds_for(len) else {
-        return Err(Refusal::Key(KeyFault {
-            depth: 0,
-            length: len,
-        }));
-    };
-    if schedule != WIDTH * (rounds + 1) {
+    if schedule != 16 * Aes.need(len)? {
         return Err(Refusal::Block);
     }
-    Ok(rounds)
+    Ok(())
 }
 
 // The steps of a round.
@@ -118,9 +99,8 @@ pub fn apply_step(step: Step, key: &[u8], block: &mut [u8]) -> Result<(), Refusa
     ensures outcome { refusal result ≡ first (step_checks (length key.now) (length block.old)) }
     ensures written { block.new ≡ unless (first (step_checks (length key.now) (length block.old))) (forward step key.now block.old) block.old }
 {
-    if key.len() != WIDTH || block.len() != WIDTH {
-        return Err(Refusal::Block);
-    }
+    let key = key.as_array().ok_or(Refusal::Block)?;
+    let block = block.as_mut_array().ok_or(Refusal::Block)?;
     match step {
         Step::SubBytes => sub_bytes(block),
         Step::ShiftRows => shift_rows(block),
@@ -135,9 +115,8 @@ pub fn undo_step(step: Step, key: &[u8], block: &mut [u8]) -> Result<(), Refusal
     ensures outcome { refusal result ≡ first (step_checks (length key.now) (length block.old)) }
     ensures written { block.new ≡ unless (first (step_checks (length key.now) (length block.old))) (backward step key.now block.old) block.old }
 {
-    if key.len() != WIDTH || block.len() != WIDTH {
-        return Err(Refusal::Block);
-    }
+    let key = key.as_array().ok_or(Refusal::Block)?;
+    let block = block.as_mut_array().ok_or(Refusal::Block)?;
     match step {
         Step::SubBytes => inv_sub_bytes(block),
         Step::ShiftRows => inv_shift_rows(block),

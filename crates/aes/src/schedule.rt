@@ -4,9 +4,9 @@
 ghost use Rattle.std.specs.Prelude.{◌≡◌, ◌-◌, ◌*◌, ◌/◌, ◌<◌, ◌≤◌, length, take};
 ghost use Rattle.aes.specs.Keys.{x_power, changed, next, words};
 
-use crate::round::{POLY, part};
+use crate::round::POLY;
 use crate::tables;
-use block::{substitute, xor_into};
+use block::{substitute, xor_whole};
 
 // Keys of more words than this are substituted half way between two rotations too.
 const SHORT_KEY: usize = 6;
@@ -23,32 +23,30 @@ fn power_of_x(n: usize) -> u8
 }
 
 // The word before word i, as it goes into word i of the expansion of a key of `nk` words.
-fn changed_word(nk: usize, i: usize, last: &[u8]) -> [u8; 4]
+fn changed_word(nk: usize, i: usize, last: &[u8; 4]) -> [u8; 4]
     requires key { (0 < nk) × (nk ≤ i) }
-    requires word { length last.now ≡ 4 }
     ensures { result ≡ changed nk i last.now }
 {
+    let mut word = *last;
     if i % nk == 0 {
-        let mut rotated = [last[1], last[2], last[3], last[0]];
-        substitute(&tables::S_BOX, &mut rotated);
-        xor_into(&mut rotated, &[power_of_x(i / nk - 1), 0, 0, 0]);
-        return rotated;
-    }
-    let mut word = [last[0], last[1], last[2], last[3]];
-    if nk > SHORT_KEY && i % nk == 4 {
+        word.rotate_left(1);
+        substitute(&tables::S_BOX, &mut word);
+        xor_whole(&mut word, &[power_of_x(i / nk - 1), 0, 0, 0]);
+    } else if nk > SHORT_KEY && i % nk == 4 {
         substitute(&tables::S_BOX, &mut word);
     }
     word
 }
 
-// Word i, from the words before it.
-fn next_word(nk: usize, i: usize, keys: &[u8]) -> [u8; 4]
-    requires key { (0 < nk) × (nk ≤ i) }
-    requires before { length keys.now ≡ i * 4 }
-    ensures { result ≡ next nk i keys.now }
+// The word after those of `keys`.
+fn next_word(nk: usize, keys: &[u8]) -> [u8; 4]
+    requires key { (0 < nk) × (nk ≤ length keys.now / 4) }
+    ensures { result ≡ next nk (length keys.now / 4) keys.now }
 {
-    let mut word = changed_word(nk, i, part(4, i - 1, keys));
-    xor_into(&mut word, part(4, i - nk, keys));
+    let (words, _) = keys.as_chunks::<4>();
+    let i = words.len();
+    let mut word = changed_word(nk, i, &words[i - 1]);
+    xor_whole(&mut word, &words[i - nk]);
     word
 }
 
@@ -58,8 +56,9 @@ fn extend(nk: usize, out: &mut [u8])
     requires words { length out.old ≡ 4 * (length out.old / 4) }
     ensures { out.new ≡ words nk (length out.old / 4 - nk) (take (nk * 4) out.old) }
 {
+    // by index: each word is made of those before it in the same slice
     for i in nk..out.len() / 4 {
-        let word = next_word(nk, i, &out[0..i * 4]);
+        let word = next_word(nk, &out[..i * 4]);
         out[i * 4..i * 4 + 4].copy_from_slice(&word);
     }
 }
@@ -71,6 +70,6 @@ pub fn write_schedule(key: &[u8], out: &mut [u8])
     requires room { length key.now ≤ length out.old }
     ensures { out.new ≡ words (length key.now / 4) (length out.old / 4 - length key.now / 4) key.now }
 {
-    out[0..key.len()].copy_from_slice(key);
+    out[..key.len()].copy_from_slice(key);
     extend(key.len() / 4, out);
 }

@@ -2,27 +2,26 @@ use Rattle.std.proofs.Common.{◌≡◌, ◌+◌, ◌-◌, ◌*◌, ◌/◌, len
 use Rattle.kit.specs.Calls.{unless}
 use Rattle.aes.specs.Keys.{words, schedule as round_keys}
 use Rattle.aes.specs.Versions.{aes}
-use Rattle.aes.specs.Sound.{taken, schedule_is}
+use Rattle.aes.specs.Sound.{taken, fitted, schedule_is}
 use Rattle.aes.proofs.AesKit.expand.Goals as goal
 
 pub write_schedule-requires : goal.write_schedule-requires
 write_schedule-requires c =
-    let p = c.in_ok-_rounds.ensures.passed in
-    let t = taken (length c.args.key.now) c.in_ok-_rounds._rounds p.0 in
-    record { some = omega (arith, t.low); words = (t.whole, omega (arith, p.1)); room = omega (arith, p.1, t.words, t.whole) }
+    let f = fitted (length c.args.key.now) (length c.args.schedule.now) (sym c.in_ok-fitting.ensures) in
+    let t = taken (length c.args.key.now) f.r f.is in
+    record { some = omega (arith, t.low); words = (t.whole, omega (arith, f.size)); room = omega (arith, f.size, t.words, t.whole) }
 
 pub returns : goal.returns
 unfolding round_keys
 returns c =
     let key = c.args.key.now in
     let out = c.args.schedule.now in
-    let r = c.in_ok-_rounds._rounds in
-    let outcome = c.in_ok-_rounds.ensures.outcome in
-    let p = c.in_ok-_rounds.ensures.passed in
-    let all : length out / 4 ≡ 4 * (r + 1) = omega (arith, p.1) in
+    let passed = c.in_ok-fitting.ensures in
+    let f = fitted (length key) (length out) (sym passed) in
+    let all : length out / 4 ≡ 4 * (f.r + 1) = omega (arith, f.size) in
     record {
-      outcome = outcome;
+      outcome = passed;
       written =
           c.write_schedule.ensures ∙ ap (λ n. words (length key / 4) (n - length key / 4) key) all
-          ∙ sym (ap (λ o. unless o (aes.schedule key) out) (sym outcome) ∙ schedule_is key r p.0);
+          ∙ sym (ap (λ o. unless o (aes.schedule key) out) (sym passed) ∙ schedule_is key f.r f.is);
     }

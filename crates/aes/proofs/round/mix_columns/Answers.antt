@@ -4,4 +4,4 @@ use Rattle.aes.proofs.round.mix_columns.Goals as goal
 
 pub returns : goal.returns
 unfolding mix_columns matrix
-returns c = c.mix_with.ensures
+returns c = c.apply_each.ensures

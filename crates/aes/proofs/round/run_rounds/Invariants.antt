@@ -1,6 +1,6 @@
-use Rattle.std.proofs.Common.{◌≡◌, ◌-◌}
+use Rattle.std.proofs.Common.{◌≡◌}
 use Rattle.aes.specs.Cipher.{rounds}
 use Rattle.aes.proofs.round.run_rounds.Given as goal
 
-abbrev pub invariant-loop-r : goal.invariant-loop-r
-invariant-loop-r l = l.block ≡ rounds (l.r - 1) l.keys l.initial.block
+abbrev pub invariant-loop-key : goal.invariant-loop-key
+invariant-loop-key l = l.block ≡ rounds l.key-index l.schedule l.initial.block

@@ -1,24 +1,48 @@
-use Rattle.std.proofs.Common.{◌≡◌, ◌+◌, ◌-◌, sym, ap, ◌∙◌, ap₂, arith}
+use Rattle.std.proofs.Common.{◌≡◌, ℕ, ◌<◌, ◌+◌, ◌-◌, ◌/◌, [], length, take, drop, slice_index_or, sym, ap, ◌∙◌, ap₂, arith}
+use Rattle.std.proofs.lemmas.List.{length-take-le, length-drop, length_push}
 use Rattle.aes.specs.Steps.{add_round_key}
-use Rattle.aes.specs.Cipher.{inv_round, inv_rounds, inv_last_round, decipher}
+use Rattle.aes.specs.Cipher.{round_key, inv_round, inv_rounds, inv_last_round, decipher}
 use Rattle.aes.specs.CipherLemmas.{inv_rounds_none, inv_rounds_more}
+use Rattle.aes.proofs.Chunks.{chunk_is, later_chunk, part_less}
 use Rattle.aes.proofs.round.undo_rounds.Goals as goal
 
-pub loop-undone-preserved : goal.loop-undone-preserved
-loop-undone-preserved c =
-    let keys = c.args.keys.now in
-    let n = c.args.count in
-    let l = c.loop-undone in
-    let e : n - (l.undone + 1) ≡ n - l.undone - 1 = omega arith in
-    ap₂ (λ k b. inv_rounds k keys b) e (c.inv_round.ensures ∙ ap (λ k. inv_round k l.block) c.part-in-loop-undone.ensures.is)
-    ∙ inv_rounds_more (n - l.undone) keys l.block (omega arith) ∙ l.invariant
+pub loop-key-init : goal.loop-key-init
+loop-key-init c =
+    let keys = c.as_chunks.result.0.now in
+    let m = length keys - 1 - 1 in
+    let rest = c.into_iter-key-iterator.result.iter.rest.now in
+    let is : rest ≡ take m (drop 1 keys) = ap (λ i. i.iter.rest.now) c.into_iter-key-iterator.ensures.into_iter_gives ∙ ap (λ i. i.rest.now) c.rev-key-items.ensures.source ∙ c.iter.ensures.rest in
+    let long : length rest ≡ m = ap length is ∙ length-take-le m (drop 1 keys) (omega (arith, length-drop 1 keys)) in (
+      omega (arith, long, c.requires, c.as_chunks.ensures.front_len),
+      is ∙ ap (λ n. take n (drop 1 keys)) (sym long),
+      ap (λ n. inv_rounds n c.args.schedule.now c.add_round_key.new.block) long,
+    )
+
+pub loop-key-preserved : goal.loop-key-preserved
+loop-key-preserved c =
+    let s = c.args.schedule.now in
+    let keys = c.as_chunks.result.0.now in
+    let rest = c.next.new.self.iter.rest.now in
+    let more = c.loop-key.key-iterator.iter.rest.now in
+    let less = part_less more rest (drop 1 keys) c.in-Some.key.now [] c.in-Some.ensures.steps c.loop-key.invariant.1 in
+    let l : length more ≡ length rest + 1 = ap length c.in-Some.ensures.steps ∙ length_push rest c.in-Some.key.now in
+    let key = less.1 ∙ ap (λ k. slice_index_or (drop 1 k) (length rest) []) c.as_chunks.ensures.front
+    ∙ later_chunk 16 (length s / 16) s (length rest) [] (omega (arith, l, c.loop-key.invariant.0, c.as_chunks.ensures.front_len)) in (
+      omega (arith, l, c.loop-key.invariant.0),
+      less.0,
+      ap (inv_rounds (length rest) s) (c.inv_round.ensures ∙ ap (λ k. inv_round k c.loop-key.block) key) ∙ inv_rounds_more (length rest) s c.loop-key.block
+          ∙ ap (λ n. inv_rounds n s c.loop-key.block) (sym l) ∙ c.loop-key.invariant.2,
+    )
 
 pub returns : goal.returns
 unfolding decipher
 returns c =
-    let keys = c.args.keys.now in
-    let n = c.args.count in
-    let l = c.loop-undone in
-    let started = c.add_round_key.ensures ∙ ap (add_round_key c.args.block.now) c.part.ensures.is in
+    let s = c.args.schedule.now in
+    let keys = c.as_chunks.result.0.now in
+    let n = length s / 16 in
+    let key : (i : ℕ) → i < n → slice_index_or keys i [] ≡ round_key i s = λ i h. ap (λ k. slice_index_or k i []) c.as_chunks.ensures.front ∙ chunk_is 16 n s i [] h in
+    let last : length keys - 1 ≡ n - 1 = omega (arith, c.as_chunks.ensures.front_len) in
+    let started = c.add_round_key.ensures ∙ ap (add_round_key c.args.block.now) (ap (λ i. slice_index_or keys i []) last ∙ key (n - 1) (omega (arith, c.requires))) in
     c.inv_last_round.ensures
-    ∙ ap₂ inv_last_round c.part-2.ensures.is (sym (inv_rounds_none (n - l.undone) keys l.block (omega arith)) ∙ l.invariant ∙ ap (inv_rounds (n - 1) keys) started)
+    ∙ ap₂ inv_last_round (key 0 (omega (arith, c.requires)))
+    (sym (inv_rounds_none (length c.loop-key.key-iterator.iter.rest.now) s c.loop-key.block c.in-None.ensures.steps.0) ∙ c.loop-key.invariant.2 ∙ ap₂ (λ i b. inv_rounds (i - 1) s b) last started)

@@ -1,5 +1,5 @@
 use Rattle.std.proofs.Common.{◌≡◌, ◌+◌, ◌-◌, ◌*◌, ◌/◌, length, take, sym, refl, ap, ◌∙◌, arith, rules}
-use Rattle.std.proofs.lemmas.List.{take_all}
+use Rattle.std.proofs.lemmas.List.{take_all, length-take-le}
 use Rattle.std.proofs.lemmas.Slice.{take-put_mid}
 use Rattle.aes.specs.Keys.{next, words}
 use Rattle.aes.specs.KeysLemmas.{words_none, words_more}
@@ -19,8 +19,9 @@ loop-i-preserved c =
     let out = c.loop-i.out in
     let w = c.copy_from_slice.new.self in
     let lw : length w ≡ 4 = search rules in
-    let e : i * 4 - 0 ≡ i * 4 = omega arith in
-    let is : w ≡ next nk i (take (i * 4) out) = c.copy_from_slice.ensures.after ∙ c.next_word-word.ensures ∙ ap (λ n. next nk i (take n out)) e in (
+    let long = length-take-le (i * 4) out (omega (arith, c.loop-i.invariant.0, c.loop-i-test.true, c.requires.words)) in
+    let e : length (take (i * 4) out) / 4 ≡ i = omega arith in
+    let is : w ≡ next nk i (take (i * 4) out) = c.copy_from_slice.ensures.after ∙ c.next_word-word.ensures ∙ ap (λ n. next nk n (take (i * 4) out)) e in (
       search rules,
       take-put_mid (i * 4) (i * 4 + 4 - i * 4) out w ((i + 1) * 4) (omega arith) (omega arith)
           ∙ words_more nk i (take (nk * 4) c.args.out.now) (take (i * 4) out) w c.loop-i.auto.i c.loop-i.invariant.1 is,

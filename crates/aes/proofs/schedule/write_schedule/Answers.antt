@@ -1,5 +1,4 @@
-use Rattle.std.proofs.Common.{◌≡◌, ◌-◌, ◌*◌, ◌/◌, ◌++◌, length, ap, ◌∙◌, ap₂, arith, length-append}
-use borrow.Rule.Slice.PartMut.{post_of}
+use Rattle.std.proofs.Common.{◌≡◌, ◌-◌, ◌*◌, ◌/◌, ◌++◌, length, drop, ap, ◌∙◌, ap₂, arith, length-append}
 use Rattle.std.proofs.lemmas.List.{length-drop, take_at}
 use Rattle.aes.specs.Keys.{words}
 use Rattle.aes.proofs.schedule.write_schedule.Goals as goal
@@ -9,10 +8,10 @@ returns c =
     let key = c.args.key.now in
     let out = c.args.out.now in
     let u = c.copy_from_slice.new.self in
-    let post = post_of 0 (length key - 0) out in
+    let post = drop (length key) out in
     let eu : u ≡ key = c.copy_from_slice.ensures.after in
     let lu : length u ≡ length key = ap length eu in
-    let lp : length post ≡ length out - (length key - 0) = length-drop (length key - 0) out in
+    let lp : length post ≡ length out - length key = length-drop (length key) out in
     let whole : length u ≡ length key / 4 * 4 = omega (arith, c.requires.words.0) in
     let lx : length (u ++ post) ≡ length out = omega (arith, length-append u post, c.requires.room) in
     c.extend.ensures
