@@ -57,6 +57,8 @@ impl Width for Wide {
 }
 
 // A block cipher with all its key lengths. Keys, schedules and blocks are bytes of the caller's.
+// A schedule and its key's length stay two arguments: of a struct with a lifetime each clause would say
+// `schedule.entry.key schedule.entry.bytes.now`.
 pub trait Kit {
     type Width: Width;
 

@@ -4,7 +4,9 @@
 #![tactic(auto)]
 
 ghost use Rattle.std.specs.Prelude.{◌≡◌, Some};
+ghost use Rattle.refusal.specs.Faults.{here as fault_here};
 ghost use Rattle.refusal.specs.Numbers.{number as numbered};
+ghost use Rattle.refusal.specs.declared.Refusal.TheVariants.{Key};
 ghost use Rattle.refusal.specs.Words.{words};
 
 use std::fmt;
@@ -14,6 +16,15 @@ use std::fmt;
 pub struct KeyFault {
     pub depth: u8,
     pub length: usize,
+}
+
+impl KeyFault {
+    // The topmost cipher itself takes no key of `length` bytes.
+    pub fn here(length: usize) -> KeyFault
+        ensures { result ≡ fault_here length }
+    {
+        KeyFault { depth: 0, length }
+    }
 }
 
 // The reasons, in the order of their numbers.
@@ -51,6 +62,14 @@ pub enum Refusal {
     Ragged,
     // 16: the last block of the received text has no padding
     Padding,
+}
+
+impl From<KeyFault> for Refusal {
+    ghost from_gives = { λ fault refusal. refusal ≡ Key fault };
+
+    fn from(fault: KeyFault) -> Refusal {
+        Refusal::Key(fault)
+    }
 }
 
 impl Refusal {
