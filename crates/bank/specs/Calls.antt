@@ -1,14 +1,15 @@
 -- What each call of a bank answers and leaves: its checks in order, and what holds once it is accepted. Assumes nothing.
-use Rattle.std.specs.Prelude.{◌≡◌, ℕ, zero, suc, ◌+◌, ◌<◌, Bool, true, not, ◌||◌, List, [], ◌∷◌, ◌++◌, length, Some, None, Ok, Err, Option, Result, ◌==◌, nat_lt}
+use Rattle.std.specs.Prelude.{◌≡◌, ℕ, ◌+◌, ◌<◌, Bool, true, not, ◌||◌, List, [], ◌∷◌, ◌++◌, length, is_err, Some, None, Ok, Err, Option, Result, ◌==◌, nat_lt}
 use Rattle.refusal.specs.Checks.{Answers}
 use Rattle.refusal.specs.declared.KeyFault.{KeyFault}
 use Rattle.refusal.specs.declared.Refusal.{Refusal}
 use Rattle.refusal.specs.declared.Refusal.TheVariants.{Scratch, Memory, Cells, Key, Mode, Start, Links, Closed, Piece, Output, Ragged, Padding}
 use Rattle.modes.specs.Machine.{opened, after, given, closing, ragged, bare}
+use Rattle.modes.specs.Numbers.{mode_numbered, direction_numbered}
 use Rattle.modes.specs.declared.Mode as mode
-use Rattle.modes.specs.declared.Mode.TheVariants.{Cbc, Cfb, Ofb}
+use Rattle.modes.specs.declared.Mode.TheVariants.{Ofb}
 use Rattle.modes.specs.declared.Direction.{Direction}
-use Rattle.modes.specs.declared.Direction.TheVariants.{Send, Receive}
+use Rattle.modes.specs.declared.Direction.TheVariants.{Receive}
 use Rattle.kit.specs.Meaning.{Meaning}
 use Rattle.bank.specs.Books.{Books, Running, tool, links, Same, Only}
 
@@ -25,17 +26,13 @@ pub record Ask : Type 0 where
 
 -- the modes are 1, 2 and 3, the directions 0 and 1; other numbers are refused
 abbrev pub unknown : Ask → Bool
-unknown a = nat_lt a.mode 1 || (nat_lt 3 a.mode || nat_lt 1 a.direction)
+unknown a = is_err (mode_numbered a.mode) || is_err (direction_numbered a.direction)
 
 abbrev pub mode_of : ℕ → mode.Mode
-mode_of zero = Ofb
-mode_of (suc zero) = Cbc
-mode_of (suc (suc zero)) = Cfb
-mode_of (suc (suc (suc n))) = Ofb
+mode_of n = elim (mode_numbered n) [ Ok m ↦ m | Err e ↦ Ofb ]
 
 abbrev pub direction_of : ℕ → Direction
-direction_of zero = Send
-direction_of (suc n) = Receive
+direction_of n = elim (direction_numbered n) [ Ok d ↦ d | Err e ↦ Receive ]
 
 -- the check of the key's length, and the cells that a key needs
 abbrev pub key_checks : Result ℕ KeyFault → List (Bool × Refusal)

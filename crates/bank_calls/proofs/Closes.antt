@@ -36,9 +36,7 @@ dropped s i (Err e) s' low d =
 pub shut_sits : (s : Standing) (i : ℕ) (l : Link) → l.open ≡ false → s.chain i ≡ [] → Sits s i l
 shut_sits s i l e none =
     record {
-      some = λ o. absurd (both_ways l.open e o);
-      thin = λ o. absurd (both_ways l.open e o);
-      begun = λ o. absurd (both_ways l.open e o);
+      fits = λ o. absurd (both_ways l.open e o);
       sized = λ o. absurd (both_ways l.open e o);
       few = λ o. absurd (both_ways l.open e o);
       shut = λ h. none;

@@ -1,17 +1,15 @@
 -- What a bank keeps of its records and chains, after one record and one chain have changed. Assumes nothing.
 use Rattle.std.proofs.Common.{◌≡◌, ℕ, ◌<◌, ◌≤◌, true, false, List, [], length, set, ap, ◌∙◌, arith, length-set}
-use Rattle.modes.specs.Machine.{limit}
 use Rattle.shelf.specs.Standing.{Standing, standing}
 use Rattle.link.specs.declared.Link.{Link}
+use Rattle.link.specs.Record.{Fits}
 use Rattle.bank_calls.specs.Table.{at}
 use Rattle.bank_calls.specs.declared.state.Bank.{Bank}
 use Rattle.bank_calls.proofs.Tables.{at_set, open_below}
 
 -- what is owed of the record under number i, over how the shelf stands
 pub record Sits (s : Standing) (i : ℕ) (l : Link) : Type 0 where
-  pub some : l.open ≡ true → 1 ≤ l.width
-  pub thin : l.open ≡ true → l.width ≤ 32
-  pub begun : l.open ≡ true → l.count < limit l.mode l.direction l.width
+  pub fits : l.open ≡ true → Fits l
   pub sized : l.open ≡ true → 1 ≤ s.size
   pub few : l.open ≡ true → length (s.chain i) ≤ 96
   pub shut : (i < 8) × (l.open ≡ false) → s.chain i ≡ []
@@ -20,9 +18,7 @@ pub record Sits (s : Standing) (i : ℕ) (l : Link) : Type 0 where
 abbrev pub All : List Link → Standing → Type 0
 All links s = record {
   eight : length links ≡ 8;
-  some : (i : ℕ) → (at links i).open ≡ true → 1 ≤ (at links i).width;
-  thin : (i : ℕ) → (at links i).open ≡ true → (at links i).width ≤ 32;
-  begun : (i : ℕ) → (at links i).open ≡ true → (at links i).count < limit (at links i).mode (at links i).direction (at links i).width;
+  fits : (i : ℕ) → (at links i).open ≡ true → Fits (at links i);
   sized : (i : ℕ) → (at links i).open ≡ true → 1 ≤ s.size;
   few : (i : ℕ) → (at links i).open ≡ true → length (s.chain i) ≤ 96;
   shut : (i : ℕ) → (i < 8) × ((at links i).open ≡ false) → s.chain i ≡ [];
@@ -32,9 +28,7 @@ pub every : (links : List Link) (s : Standing) → length links ≡ 8 → ((i : 
 every links s eight sits =
     record {
       eight = eight;
-      some = λ i. (sits i).some;
-      thin = λ i. (sits i).thin;
-      begun = λ i. (sits i).begun;
+      fits = λ i. (sits i).fits;
       sized = λ i. (sits i).sized;
       few = λ i. (sits i).few;
       shut = λ i. (sits i).shut;
@@ -42,7 +36,7 @@ every links s eight sits =
 
 module _ {K : Type 0} (b : Bank K) where
   pub sits : (i : ℕ) → Sits (standing b.shelf.book) i (at b.links i)
-  sits i = record { some = b.some i; thin = b.thin i; begun = b.begun i; sized = b.sized i; few = b.few i; shut = b.shut i }
+  sits i = record { fits = b.fits i; sized = b.sized i; few = b.few i; shut = b.shut i }
 
   -- one record written; no other chain has changed, nor the number of cells
   pub written : (i : ℕ) (l : Link) (s' : Standing) → i < 8 → Sits s' i l → s'.size ≡ b.shelf.book.size → ((d : ℕ) → d < 16 → (d ≡ i → ⊥) → s'.chain d ≡ (standing b.shelf.book).chain d) →
@@ -50,9 +44,7 @@ module _ {K : Type 0} (b : Bank K) where
   written i l s' low here size others =
       every (set b.links i l) s' (length-set b.links i l ∙ b.eight)
       (at_set (Sits s') b.links i l (omega (arith, b.eight)) here (λ j d. record {
-        some = b.some j;
-        thin = b.thin j;
-        begun = b.begun j;
+        fits = b.fits j;
         sized = λ o. omega (arith, b.sized j o);
         few = λ o. let e = ap length (others j (omega (arith, open_below b.links j o, b.eight)) d) in omega (arith, b.few j o);
         shut = λ h. others j (omega (arith, h.0)) d ∙ b.shut j h;

@@ -54,6 +54,5 @@ module _ {K : Type 0} (b : Bank K) (memory : List (List ℕ)) (i : ℕ) where
   pub put_sits : (m : Meaning) (s piece out : List ℕ) (r : Result ℕ Refusal) (l' : Link) (out' : List ℕ) → None ≡ first (load_checks b memory i) → one.Puts m s (at b.links i) piece out r l' out' → Sits (standing b.shelf.book) i l'
   put_sits m s piece out (Ok n) l' out' told did =
       let o = load_open told in
-      let f = did.holds.fits in
-      record { some = λ _. f.some; thin = λ _. f.thin; begun = λ _. f.begun; sized = λ _. b.sized i o; few = λ _. b.few i o; shut = λ h. b.shut i (h.0, sym did.holds.kept.stays ∙ h.1) }
+      record { fits = λ _. did.holds.fits; sized = λ _. b.sized i o; few = λ _. b.few i o; shut = λ h. b.shut i (h.0, sym did.holds.kept.stays ∙ h.1) }
   put_sits m s piece out (Err e) l' out' told did = let P : Link → Type 0 = Sits (standing b.shelf.book) i in subst P (sym did.holds.0) (sits b i)

@@ -1,10 +1,11 @@
 -- A link that is opened. Assumes nothing.
-use Rattle.std.proofs.Common.{◌≡◌, ℕ, ◌*◌, ◌<◌, ◌≤◌, true, false, not, eqb, ltb, List, [], ◌∷◌, ◌++◌, length, set, Some, None, Ok, Err, Result, sym, refl, ap, ◌∙◌, subst, ap₂, arith}
+use Rattle.std.proofs.Common.{◌≡◌, ℕ, ◌*◌, ◌<◌, ◌≤◌, true, false, not, ◌||◌, is_err, eqb, ltb, List, [], ◌∷◌, ◌++◌, length, set, Some, None, Ok, Err, Result, sym, refl, ap, ◌∙◌, subst, ap₂, arith}
 use Rattle.std.proofs.lemmas.Bool.{eq-eqb, ne_eqb, eqb-true, le-ltb, ltb-false, not-false, both_ways, cond-false}
 use Rattle.refusal.specs.Checks.{first}
 use Rattle.refusal.specs.declared.KeyFault.{KeyFault}
 use Rattle.refusal.specs.declared.Refusal.{Refusal}
-use Rattle.refusal.specs.declared.Refusal.TheVariants.{Scratch, Memory, Cells, Key, Mode, Start, Links}
+use Rattle.refusal.specs.declared.Refusal.TheVariants as refusal
+use Rattle.refusal.specs.declared.Refusal.TheVariants.{Scratch, Memory, Cells, Key, Start, Links}
 use Rattle.refusal.proofs.Checks.{told_here, none_due}
 use Rattle.kit.specs.Meaning.{Meaning}
 use Rattle.shelf.specs.Standing.{Standing, standing, free}
@@ -14,6 +15,11 @@ use Rattle.shelf.specs.Keys.{joined, key_cells}
 use Rattle.shelf.proofs.Room.{grown_listed, grown_many, grown_free}
 use Rattle.shelf.proofs.KeyCells.{length_key_cells, joined_key_cells}
 use Rattle.modes.specs.Machine.{opened}
+use Rattle.modes.specs.Numbers.{mode_numbered, direction_numbered}
+use Rattle.modes.specs.declared.Mode.{Mode}
+use Rattle.modes.specs.declared.Mode.TheVariants.{Ofb}
+use Rattle.modes.specs.declared.Direction.{Direction}
+use Rattle.modes.specs.declared.Direction.TheVariants.{Receive}
 use Rattle.link.specs.declared.Link.{Link}
 use Rattle.link.specs.Record.{view, begun, Fits}
 use Rattle.bank.specs.Books.{links}
@@ -26,10 +32,20 @@ use Rattle.bank_calls.proofs.Tables.{at_same, at_other, open_below}
 use Rattle.bank_calls.proofs.Seen.{seen_shut, seen_alike, kept_same, eight_seen}
 use Rattle.bank_calls.proofs.Invariants.{Sits}
 
+-- ---- what the numbers of mode and direction name
+
+pub known_by : (a : Ask) (md : Mode) (d : Direction) → Ok md ≡ mode_numbered a.mode → Ok d ≡ direction_numbered a.direction → unknown a ≡ false
+known_by a md d e f = ap₂ (λ (x : Result Mode Refusal) (y : Result Direction Refusal). is_err x || is_err y) (sym e) (sym f)
+
+pub named_by : (a : Ask) (md : Mode) (d : Direction) → Ok md ≡ mode_numbered a.mode → Ok d ≡ direction_numbered a.direction
+    → (md ≡ mode_of a.mode) × (d ≡ direction_of a.direction)
+named_by a md d e f =
+    (ap (λ (x : Result Mode Refusal). elim x [ Ok z ↦ z | Err r ↦ Ofb ]) e, ap (λ (x : Result Direction Refusal). elim x [ Ok z ↦ z | Err r ↦ Receive ]) f)
+
 -- ---- the checks, as the code goes through them
 
 module _ (m : Meaning) (size «open» room : ℕ) (a : Ask) (right : eqb a.scratch 1536 ≡ true) where
-  pub mode_told : unknown a ≡ true → Some Mode ≡ first (open_checks m size «open» room a)
+  pub mode_told : unknown a ≡ true → Some refusal.Mode ≡ first (open_checks m size «open» room a)
   mode_told u = rw (right, u) refl
 
   module _ (known : unknown a ≡ false) where
@@ -124,7 +140,7 @@ room_alike b memory shown n =
 -- a link just opened is as the bank keeps it
 pub begun_sits : (s : Standing) (i : ℕ) (l : Link) → l.open ≡ true → Fits l → 1 ≤ s.size → length (s.chain i) ≤ 96 → Sits s i l
 begun_sits s i l o f sized few =
-    record { some = λ _. f.some; thin = λ _. f.thin; begun = λ _. f.begun; sized = λ _. sized; few = λ _. few; shut = λ h. absurd (both_ways l.open h.1 o) }
+    record { fits = λ _. f; sized = λ _. sized; few = λ _. few; shut = λ h. absurd (both_ways l.open h.1 o) }
 
 pub opened_both : {K : Type 0} (m : Meaning) (b b' : Bank K) (memory memory' : List (List ℕ)) (a : Ask) (i n : ℕ) → m.need (length a.key) ≡ Ok n → i < 8 → (at b.links i).open ≡ false →
     length (m.schedule a.key) ≡ 16 * n → n ≤ free (standing b.shelf.book) → view (begun (mode_of a.mode) (direction_of a.direction) (length a.key) m.width a.start) ≡ opened a.start →

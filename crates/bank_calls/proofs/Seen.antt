@@ -1,6 +1,8 @@
 -- The books of a bank, link by link. Assumes nothing.
-use Rattle.std.proofs.Common.{◌≡◌, ℕ, zero, suc, ◌+◌, ◌<◌, ◌≤◌, Bool, true, false, cond, List, length, Some, None, sym, refl, ap, ◌∙◌, subst, ap₂, inl, inr, add-one, arith}
-use Rattle.std.proofs.lemmas.Bool.{cond-true, cond-false, cases_eq}
+use Rattle.std.proofs.Common.{◌≡◌, ℕ, zero, suc, ◌+◌, ◌<◌, ◌≤◌, Bool, true, false, cond, List, length, take, Some, None, sym, refl, ap, ◌∙◌, subst, ap₂, inl, inr, add-one, arith}
+use Rattle.std.proofs.lemmas.Bool.{cond-true, cond-false, cases_eq, cases_Bool}
+use Rattle.std.specs.List.{count_by}
+use Rattle.std.proofs.lemmas.List.Sums.{count_by_more_yes, count_by_more_no}
 use Rattle.shelf.specs.Standing.{Standing, standing}
 use Rattle.shelf.specs.Items.{list}
 use Rattle.shelf.specs.Keys.{joined}
@@ -8,7 +10,7 @@ use Rattle.shelf.specs.declared.shelf.Shelf.{Shelf}
 use Rattle.link.specs.declared.Link.{Link}
 use Rattle.link.specs.Record.{view}
 use Rattle.bank.specs.Books.{Books, eight, one_if_open, links, Same}
-use Rattle.bank_calls.specs.Table.{at}
+use Rattle.bank_calls.specs.Table.{absent, at}
 use Rattle.bank_calls.specs.Seen.{running, seen, books_of, books}
 use Rattle.bank_calls.specs.Calls.{Kept}
 use Rattle.bank_calls.specs.declared.state.Bank.{Bank}
@@ -40,11 +42,14 @@ pub eight_seen : (s : Standing) (links : List Link) (memory : List (List ℕ)) �
 eight_seen s links memory =
     omega (arith, one_seen s memory 0 (at links 0), one_seen s memory 1 (at links 1), one_seen s memory 2 (at links 2), one_seen s memory 3 (at links 3), one_seen s memory 4 (at links 4), one_seen s memory 5 (at links 5), one_seen s memory 6 (at links 6), one_seen s memory 7 (at links 7))
 
-pub below_open : (links : List Link) (i n : ℕ) → (at links i).open ≡ true → n ≡ open_count links i → n + 1 ≡ open_count links (i + 1)
-below_open links i n o e = rw (add-one i) (omega (arith, ap {A = Bool} {B = ℕ} (λ z. cond z 1 0) o))
-
-pub below_shut : (links : List Link) (i n : ℕ) → (at links i).open ≡ false → n ≡ open_count links i → n ≡ open_count links (i + 1)
-below_shut links i n o e = rw (add-one i) (omega (arith, ap {A = Bool} {B = ℕ} (λ z. cond z 1 0) o))
+-- the count of a front of the table
+pub counted : (links : List Link) (i : ℕ) → i ≤ length links → count_by (λ l. l.open) (take i links) ≡ open_count links i
+counted links zero h = refl
+counted links (suc i) h =
+    elim (cases_Bool (at links i).open) [
+      | inl o ↦ (let e = rw (add-one i) at (count_by_more_yes (λ l. l.open) links i absent (omega arith) o) in omega (arith, e, counted links i (omega arith), ap {A = Bool} {B = ℕ} (λ z. cond z 1 0) o))
+      | inr o ↦ (let e = rw (add-one i) at (count_by_more_no (λ l. l.open) links i absent (omega arith) o) in omega (arith, e, counted links i (omega arith), ap {A = Bool} {B = ℕ} (λ z. cond z 1 0) o))
+    ]
 
 -- ---- a link whose cells and what they hold are the same is seen the same
 

@@ -9,6 +9,7 @@ ghost use Rattle.bank_calls.specs.Calls.{number, gave, reason, asked, lengths, W
 ghost use Rattle.bank_calls.specs.Pasts.{Adds, AddsUnshown};
 
 use crate::guard::Guard;
+use crate::inner::Asked;
 use crate::state::Bank;
 use crate::ticket::{Returned, Ticket};
 use kit::Kit;
@@ -17,7 +18,7 @@ use refusal::Refusal;
 use shelf::{KeyCell, Shelf};
 
 // How many links a bank has.
-pub(super) const LINKS: usize = 8;
+const LINKS: usize = 8;
 
 // The bytes of the scratch: as many as the longest schedule has.
 const SCRATCH: usize = 1536;
@@ -73,7 +74,13 @@ impl<K: Kit> Bank<K> {
             return Err(Refusal::Scratch);
         }
         let room = Guard { bytes: scratch };
-        let link = self.open_with(room.bytes, memory, mode, direction, key, start)?;
+        let asked = Asked {
+            mode,
+            direction,
+            key,
+            start,
+        };
+        let link = self.open_with(room.bytes, memory, &asked)?;
         Ok(Ticket { link })
     }
 
@@ -121,7 +128,7 @@ impl<K: Kit> Bank<K> {
             });
         }
         let guard = Guard { bytes: scratch };
-        match self.end_with(guard.bytes, memory, ticket.link as usize, out) {
+        match self.end_with(guard.bytes, memory, ticket.link, out) {
             Ok(given) => {
                 let Ticket { link: _ } = ticket;
                 Ok(given)
@@ -137,7 +144,6 @@ impl<K: Kit> Bank<K> {
         ensures past { AddsUnshown (K.Kit.meaning self.old.kit) self.old (strikes ticket.link) self.new }
     {
         let Ticket { link } = ticket;
-        let link = link as usize;
         if self.is_open(link) {
             self.close(link);
         }

@@ -1,4 +1,4 @@
-// What the calls of a bank do under the scratch's guard. The scratch then has its 1,536 bytes.
+// What the calls of a bank do under the scratch's guard.
 ghost use Rattle.std.specs.Prelude.{◌≡◌, ℕ, ◌<◌, ◌≤◌, true, false, ◌||◌, List, [], ◌∷◌, length, take, MatchOption, MatchResult, nat_lt};
 ghost use Rattle.refusal.specs.Checks.{Answers};
 ghost use Rattle.refusal.specs.declared.Refusal.TheVariants.{Mode as UnknownMode};
@@ -11,7 +11,6 @@ ghost use Rattle.bank_calls.specs.Table.{at};
 ghost use Rattle.bank_calls.specs.Seen.{books};
 ghost use Rattle.bank_calls.specs.Calls.{asked_with, lengths_with, gave, load_checks, room_checks, Written, Kept, Takes, Steps, Shuts};
 
-use crate::calls::LINKS;
 use crate::state::Bank;
 use kit::{Kit, Width};
 use link::Link;
@@ -19,22 +18,13 @@ use modes::{Direction, Mode};
 use refusal::Refusal;
 use shelf::KeyCell;
 
-// The mode and the direction that numbers name.
-fn named(mode: u8, direction: u8) -> Result<(Mode, Direction), Refusal>
-    ensures { Answers ((nat_lt mode 1 || (nat_lt 3 mode || nat_lt 1 direction), UnknownMode) ∷ []) result (λ p. (p.0 ≡ mode_of mode) × (p.1 ≡ direction_of direction)) (Unit {0}) }
-{
-    let mode = match mode {
-        1 => Mode::Cbc,
-        2 => Mode::Cfb,
-        3 => Mode::Ofb,
-        _ => return Err(Refusal::Mode),
-    };
-    let direction = match direction {
-        0 => Direction::Send,
-        1 => Direction::Receive,
-        _ => return Err(Refusal::Mode),
-    };
-    Ok((mode, direction))
+// What an open asks for, in firmware's numbers.
+#[derive(Clone, Copy)]
+pub(super) struct Asked<'a> {
+    pub(super) mode: u8,
+    pub(super) direction: u8,
+    pub(super) key: &'a [u8],
+    pub(super) start: &'a [u8],
 }
 
 impl<K: Kit> Bank<K> {
@@ -42,44 +32,31 @@ impl<K: Kit> Bank<K> {
     pub(super) fn open_links(&self) -> usize
         ensures { (memory : List (List ℕ)) → result ≡ links (books self.now memory) }
     {
-        let mut n = 0;
-        for i in 0..LINKS {
-            if self.links[i].open {
-                n += 1;
-            }
-        }
-        n
+        self.links.iter().filter(|l| l.open).count()
     }
 
     // Whether there is such a link and it is open.
     pub(super) fn is_open(&self, link: usize) -> bool
         ensures { result ≡ (at self.now.links link).open }
     {
-        link < LINKS && self.links[link].open
+        self.links.get(link).is_some_and(|l| l.open)
     }
 
     // The first link that is not open.
-    fn vacant(&self) -> Option<u8>
+    fn vacant(&self) -> Option<usize>
         ensures { MatchOption result ((i : ℕ) → i < 8 → (at self.now.links i).open ≡ true) (λ i. (i < 8) × ((at self.now.links i).open ≡ false)) }
     {
-        for i in 0..LINKS as u8 {
-            if !self.links[i as usize].open {
-                return Some(i);
-            }
-        }
-        None
+        self.links.iter().position(|l| !l.open)
     }
 
     // A link for a schedule of `need` cells: the memory is the bank's, a link is not open, and as many cells are free.
-    fn room(&self, shown: usize, need: usize) -> Result<u8, Refusal>
+    fn room(&self, shown: usize, need: usize) -> Result<usize, Refusal>
         ensures { Answers (room_checks self.now shown need) result (λ i. (i < 8) × ((at self.now.links i).open ≡ false)) (Unit {0}) }
     {
         if shown != self.shelf.cells() {
             return Err(Refusal::Memory);
         }
-        let Some(link) = self.vacant() else {
-            return Err(Refusal::Links);
-        };
+        let link = self.vacant().ok_or(Refusal::Links)?;
         if self.shelf.free() < need {
             return Err(Refusal::Cells);
         }
@@ -87,7 +64,12 @@ impl<K: Kit> Bank<K> {
     }
 
     // An open link's schedule, gathered to the front of the scratch; how many bytes it has.
-    fn load(&self, scratch: &mut [u8], memory: &[KeyCell], link: usize) -> Result<usize, Refusal>
+    fn load(
+        &self,
+        scratch: &mut [u8],
+        memory: &[KeyCell],
+        link: usize,
+    ) -> Result<usize, Refusal>
         requires { length scratch.old ≡ 1536 }
         ensures { Answers (load_checks self.now memory.now link) result (λ n. (n ≤ 1536) × (take n scratch.new ≡ joined (list (standing self.now.shelf.book) memory.now link))) (Unit {0}) }
     {
@@ -111,16 +93,20 @@ impl<K: Kit> Bank<K> {
         &mut self,
         scratch: &mut [u8],
         memory: &mut [KeyCell],
-        mode: u8,
-        direction: u8,
-        key: &[u8],
-        start: &[u8],
-    ) -> Result<u8, Refusal>
+        asked: &Asked<'_>,
+    ) -> Result<usize, Refusal>
         requires { length scratch.old ≡ 1536 }
-        ensures outcome { Opens (K.Kit.meaning self.old.kit) (books self.old memory.old) (asked_with 1536 memory.old mode direction key.now start.now) result (books self.new memory.new) }
-        ensures link { MatchResult result (λ i. Takes (K.Kit.meaning self.old.kit) self.old memory.old (asked_with 1536 memory.old mode direction key.now start.now) i self.new memory.new) (λ _. Kept self.old self.new × (memory.new ≡ memory.old)) }
+        ensures outcome { Opens (K.Kit.meaning self.old.kit) (books self.old memory.old) (asked_with 1536 memory.old asked.now.mode asked.now.direction asked.now.key.now asked.now.start.now) result (books self.new memory.new) }
+        ensures link { MatchResult result (λ i. Takes (K.Kit.meaning self.old.kit) self.old memory.old (asked_with 1536 memory.old asked.now.mode asked.now.direction asked.now.key.now asked.now.start.now) i self.new memory.new) (λ _. Kept self.old self.new × (memory.new ≡ memory.old)) }
     {
-        let (mode, direction) = named(mode, direction)?;
+        let Asked {
+            mode,
+            direction,
+            key,
+            start,
+        } = *asked;
+        let mode = Mode::try_from(mode)?;
+        let direction = Direction::try_from(direction)?;
         let need = self.kit.need(key.len())?;
         let width = K::Width::width();
         if start.len() != width {
@@ -130,8 +116,8 @@ impl<K: Kit> Bank<K> {
         let schedule = &mut scratch[0..16 * need];
         // neither is refused: the key's length, the memory and the free cells were looked at
         let _ = self.kit.expand(key, schedule);
-        let _ = self.shelf.append_bytes(memory, link as usize, schedule);
-        self.links[link as usize] = Link::opened(mode, direction, key.len(), width, start);
+        let _ = self.shelf.append_bytes(memory, link, schedule);
+        self.links[link] = Link::opened(mode, direction, key.len(), width, start);
         Ok(link)
     }
 

@@ -4,7 +4,7 @@ ghost use Rattle.std.specs.Prelude.{◌≡◌};
 use refusal::Refusal;
 
 pub struct Ticket {
-    pub(super) link: u8,
+    pub(super) link: usize,
 }
 
 // A refused end: why, and the ticket back.
@@ -18,6 +18,6 @@ impl Ticket {
     pub fn link(&self) -> usize
         ensures { result ≡ self.now.link }
     {
-        self.link as usize
+        self.link
     }
 }

@@ -1,8 +1,8 @@
 -- How many bytes a piece and an end give. Assumes nothing.
-use Rattle.std.proofs.Common.{◌≡◌, ℕ, suc, ◌≤◌, List, length, take, sym, ap, ◌∙◌, arith}
+use Rattle.std.proofs.Common.{◌≡◌, ℕ, suc, ◌<◌, ◌≤◌, List, length, get_or, take, sym, ap, ◌∙◌, arith}
 use Rattle.std.proofs.lemmas.List.{length-take-le}
 use Rattle.block.specs.Bytes.{Bytes, Block}
-use Rattle.block.proofs.Parts.{bytes_take}
+use Rattle.block.proofs.Parts.{bytes_from, bytes_take}
 use Rattle.kit.specs.Meaning.{Meaning, Sound}
 use Rattle.kit.proofs.Calls.{block_enciphered, block_deciphered}
 use Rattle.modes.specs.Machine.{limit, due_count, end_count}
@@ -26,6 +26,9 @@ limit_below Ofb d w = omega arith
 pub record Arrays (l : Link) : Type 0 where
   pub chain : Block 32 l.chain
   pub held : Block 32 l.held
+
+pub arrays_from : (l : Link) → length l.chain ≡ 32 → ((i : ℕ) → get_or l.chain i 0 < 256) → length l.held ≡ 32 → ((i : ℕ) → get_or l.held i 0 < 256) → Arrays l
+arrays_from l cl cb hl hb = record { chain = record { size = cl; bytes = bytes_from l.chain cb }; held = record { size = hl; bytes = bytes_from l.held hb } }
 
 module _ (m : Meaning) (s : List ℕ) (l : Link) (f : Fits l) (a : Arrays l) where
   few : l.count ≤ 32

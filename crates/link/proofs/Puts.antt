@@ -1,8 +1,7 @@
 -- A piece's checks. Assumes nothing.
-use Rattle.std.proofs.Common.{◌≡◌, ℕ, ◌<◌, ◌≤◌, Bool, true, false, ltb, List, [], ◌∷◌, length, Ok, Err, Result, sym, refl, ap, ◌∙◌, MatchResult}
+use Rattle.std.proofs.Common.{◌≡◌, ℕ, ◌<◌, ◌≤◌, Bool, true, false, ltb, List, [], ◌∷◌, length, Ok, Err, sym, refl, ap, ◌∙◌}
 use Rattle.std.proofs.lemmas.Bool.{lt-ltb, le-ltb}
 use Rattle.refusal.specs.Checks.{first}
-use Rattle.refusal.specs.declared.Refusal.{Refusal}
 use Rattle.refusal.specs.declared.Refusal.TheVariants.{Piece, Output}
 use Rattle.kit.specs.Meaning.{Meaning}
 use Rattle.link.specs.declared.Link.{Link}
@@ -21,7 +20,6 @@ module _ (m : Meaning) (s : List ℕ) (l : Link) (piece out : List ℕ) where
   pub put_short : length piece ≤ 4096 → length out < count → Puts m s l piece out (Err Output) l out
   put_short h lt = record { told = sym (checks_as _ _ false true (le-ltb 4096 (length piece) h) (lt-ltb (length out) count lt)); holds = (refl, refl) }
 
-  pub put_given : length piece ≤ 4096 → count ≤ length out → (r : Result ℕ Refusal) (l' : Link) (out' : List ℕ)
-      → MatchResult r (λ n. Fed m s l piece out n l' out') (λ _. ⊥) → Puts m s l piece out r l' out'
-  put_given h q (Ok n) l' out' f = record { told = sym (checks_as _ _ false false (le-ltb 4096 (length piece) h) (le-ltb (length out) count q)); holds = f }
-  put_given h q (Err e) l' out' f = absurd f
+  pub put_given : length piece ≤ 4096 → count ≤ length out → (n : ℕ) (l' : Link) (out' : List ℕ)
+      → Fed m s l piece out n l' out' → Puts m s l piece out (Ok n) l' out'
+  put_given h q n l' out' f = record { told = sym (checks_as _ _ false false (le-ltb 4096 (length piece) h) (le-ltb (length out) count q)); holds = f }

@@ -2,23 +2,16 @@
 // Promises what each block then holds, for every schedule.
 // Rests on the kit's calls and on the joining of crate modes.
 ghost use Rattle.std.specs.Prelude.{◌≡◌, ◌≤◌, length, take};
-ghost use Rattle.block.specs.Bytes.{Bytes};
 ghost use Rattle.kit.specs.Calls.{enciphered, deciphered};
 ghost use Rattle.modes.specs.Join.{join, part};
 ghost use Rattle.modes.specs.Machine.{cipher_byte};
 ghost use Rattle.link.specs.Record.{mixed_byte};
 ghost use Rattle.link.specs.Calls.{overwritten};
 
+use crate::Link;
 use kit::Kit;
 use modes::Direction;
 use modes::join::{join_byte, join_into, part_byte, part_into};
-
-// Does nothing: tells a caller's proof that what a slice of bytes holds are bytes, which it does not see in a record.
-pub fn are_bytes(xs: &[u8])
-    ensures { Bytes xs.now }
-{
-    let _none = xs.is_empty();
-}
 
 // The bytes of `src` at the front of `out`.
 pub fn write_front(out: &mut [u8], src: &[u8])
@@ -28,59 +21,41 @@ pub fn write_front(out: &mut [u8], src: &[u8])
     out[0..src.len()].copy_from_slice(src);
 }
 
-// E of a block joined with the block before.
-pub fn sealed_block<K: Kit>(
-    kit: &K,
-    key: usize,
-    schedule: &[u8],
-    chain: &[u8; 32],
-    text: &[u8; 32],
-    width: usize,
-) -> [u8; 32]
-    requires { width ≤ 32 }
-    ensures { take width result ≡ enciphered (K.Kit.meaning kit.now) key schedule.now (join (take width text.now) (take width chain.now)) }
-{
-    let mut block = *text;
-    let part = &mut block[0..width];
-    join_into(part, &chain[0..width]);
-    let _ = kit.encipher(key, schedule, part);
-    block
-}
+impl Link {
+    // E of a block of text joined with the block before.
+    pub(crate) fn seal<K: Kit>(&self, kit: &K, schedule: &[u8], text: &[u8; 32]) -> [u8; 32]
+        requires { self.now.width ≤ 32 }
+        ensures { take self.now.width result ≡ enciphered (K.Kit.meaning kit.now) self.now.key schedule.now (join (take self.now.width text.now) (take self.now.width self.now.chain)) }
+    {
+        let mut block = *text;
+        let part = &mut block[0..self.width];
+        join_into(part, &self.chain[0..self.width]);
+        let _ = kit.encipher(self.key, schedule, part);
+        block
+    }
 
-// D of a block, parted from the block before.
-pub fn opened_block<K: Kit>(
-    kit: &K,
-    key: usize,
-    schedule: &[u8],
-    chain: &[u8; 32],
-    held: &[u8; 32],
-    width: usize,
-) -> [u8; 32]
-    requires { width ≤ 32 }
-    ensures { take width result ≡ part (deciphered (K.Kit.meaning kit.now) key schedule.now (take width held.now)) (take width chain.now) }
-{
-    let mut block = *held;
-    let text = &mut block[0..width];
-    let _ = kit.decipher(key, schedule, text);
-    part_into(text, &chain[0..width]);
-    block
-}
+    // D of the block held, parted from the block before.
+    pub(crate) fn unseal<K: Kit>(&self, kit: &K, schedule: &[u8]) -> [u8; 32]
+        requires { self.now.width ≤ 32 }
+        ensures { take self.now.width result ≡ part (deciphered (K.Kit.meaning kit.now) self.now.key schedule.now (take self.now.width self.now.held)) (take self.now.width self.now.chain) }
+    {
+        let mut block = self.held;
+        let text = &mut block[0..self.width];
+        let _ = kit.decipher(self.key, schedule, text);
+        part_into(text, &self.chain[0..self.width]);
+        block
+    }
 
-// E of a block.
-pub fn pad_block<K: Kit>(
-    kit: &K,
-    key: usize,
-    schedule: &[u8],
-    chain: &[u8; 32],
-    width: usize,
-) -> [u8; 32]
-    requires { width ≤ 32 }
-    ensures { take width result ≡ enciphered (K.Kit.meaning kit.now) key schedule.now (take width chain.now) }
-{
-    let mut block = *chain;
-    let pad = &mut block[0..width];
-    let _ = kit.encipher(key, schedule, pad);
-    block
+    // E of the chain block.
+    pub(crate) fn pad<K: Kit>(&self, kit: &K, schedule: &[u8]) -> [u8; 32]
+        requires { self.now.width ≤ 32 }
+        ensures { take self.now.width result ≡ enciphered (K.Kit.meaning kit.now) self.now.key schedule.now (take self.now.width self.now.chain) }
+    {
+        let mut block = self.chain;
+        let pad = &mut block[0..self.width];
+        let _ = kit.encipher(self.key, schedule, pad);
+        block
+    }
 }
 
 // A byte joined with a byte of the pad, or parted from it.

@@ -8,7 +8,7 @@ ghost use Rattle.link.specs.Record.{Fits};
 ghost use Rattle.link.specs.Calls.{Ends};
 
 use crate::Link;
-use crate::blocks::{are_bytes, opened_block, sealed_block, write_front};
+use crate::blocks::write_front;
 use kit::Kit;
 use modes::padding::{pad_from, text_end};
 use refusal::Refusal;
@@ -26,14 +26,12 @@ impl Link {
         requires sends { self.now.direction ≡ Send }
         ensures { Ends (K.Kit.meaning kit.now) schedule.now self.now out.old result out.new }
     {
-        are_bytes(&self.chain);
-        are_bytes(&self.held);
+        let mut text = self.held;
+        pad_from(&mut text[0..self.width], self.count);
+        let block = self.seal(kit, schedule, &text);
         if out.len() < self.width {
             return Err(Refusal::Output);
         }
-        let mut text = self.held;
-        pad_from(&mut text[0..self.width], self.count);
-        let block = sealed_block(kit, self.key, schedule, &self.chain, &text, self.width);
         write_front(out, &block[0..self.width]);
         Ok(self.width)
     }
@@ -53,10 +51,8 @@ impl Link {
         if self.count < self.width {
             return Err(Refusal::Ragged);
         }
-        let text = opened_block(kit, self.key, schedule, &self.chain, &self.held, self.width);
-        let Some(n) = text_end(&text[0..self.width]) else {
-            return Err(Refusal::Padding);
-        };
+        let text = self.unseal(kit, schedule);
+        let n = text_end(&text[0..self.width]).ok_or(Refusal::Padding)?;
         if out.len() < n {
             return Err(Refusal::Output);
         }

@@ -3,7 +3,7 @@
 // Rests on the machine and the laws of crate modes, and on the calls of crate kit.
 #![tactic(auto)]
 
-ghost use Rattle.std.specs.Prelude.{◌≡◌, ℕ, ◌<◌, ◌≤◌, List, length, MatchResult};
+ghost use Rattle.std.specs.Prelude.{◌≡◌, ℕ, ◌<◌, ◌≤◌, List, length};
 ghost use Rattle.kit.specs.Meaning.{Meaning};
 ghost use Rattle.modes.specs.Machine.{due_count, opened as opens};
 ghost use Rattle.link.specs.Record.{view, Fits, closed as zeros, begun};
@@ -13,7 +13,6 @@ mod blocks;
 mod ends;
 mod takes;
 
-use crate::blocks::are_bytes;
 use kit::Kit;
 use modes::{Direction, Mode};
 use refusal::Refusal;
@@ -85,23 +84,12 @@ impl Link {
         }
     }
 
-    // How many bytes a piece of n bytes gives.
+    // How many bytes a piece of n bytes gives; a receiving CBC link gives a block when one more byte comes.
     pub fn due_count(&self, n: usize) -> usize
         requires fits { Fits self.now }
         requires short { n ≤ 4096 }
         ensures count { result ≡ due_count self.now.mode self.now.direction self.now.width self.now.count n }
         ensures gives { Gives self.now n result }
-    {
-        are_bytes(&self.chain);
-        are_bytes(&self.held);
-        self.whole_blocks(n)
-    }
-
-    // Those that n more bytes complete; a receiving CBC link gives a block when one more byte comes.
-    fn whole_blocks(&self, n: usize) -> usize
-        requires fits { Fits self.now }
-        requires short { n ≤ 4096 }
-        ensures { result ≡ due_count self.now.mode self.now.direction self.now.width self.now.count n }
     {
         match (self.mode, self.direction) {
             (Mode::Cbc, Direction::Send) => (self.count + n) / self.width * self.width,
@@ -124,15 +112,7 @@ impl Link {
         ensures { Stepped (K.Kit.meaning kit.now) schedule.now self.old call out.old result self.new out.new }
     {
         match (self.mode, self.direction, call) {
-            (Mode::Cbc, Direction::Send, Call::Byte(x)) => Ok(self.send_byte(
-                kit, schedule, x, out,
-            )),
-            (Mode::Cbc, Direction::Receive, Call::Byte(x)) => Ok(self.receive_byte(
-                kit, schedule, x, out,
-            )),
-            (Mode::Cfb | Mode::Ofb, _, Call::Byte(x)) => Ok(self.stream_byte(
-                kit, schedule, x, out,
-            )),
+            (_, _, Call::Byte(x)) => Ok(self.take(kit, schedule, x, out)),
             (Mode::Cbc, Direction::Send, Call::End) => self.send_end(kit, schedule, out),
             (Mode::Cbc, Direction::Receive, Call::End) => self.receive_end(kit, schedule, out),
             (Mode::Cfb | Mode::Ofb, _, Call::End) => Ok(0),
@@ -140,24 +120,16 @@ impl Link {
     }
 
     // Takes a piece, byte after byte; answers how many bytes it gave.
-    fn feed<K: Kit>(
-        &mut self,
-        kit: &K,
-        schedule: &[u8],
-        piece: &[u8],
-        out: &mut [u8],
-    ) -> Result<usize, Refusal>
+    fn feed<K: Kit>(&mut self, kit: &K, schedule: &[u8], piece: &[u8], out: &mut [u8]) -> usize
         requires fits { Fits self.old }
         requires room { length (link_given (K.Kit.meaning kit.now) schedule.now self.old piece.now) ≤ length out.old }
-        ensures { MatchResult result (λ n. Fed (K.Kit.meaning kit.now) schedule.now self.old piece.now out.old n self.new out.new) (λ _. ⊥) }
+        ensures { Fed (K.Kit.meaning kit.now) schedule.now self.old piece.now out.old result self.new out.new }
     {
         let mut at = 0;
-        for i in 0..piece.len() {
-            let rest = &mut out[at..];
-            let n = self.step(kit, schedule, Call::Byte(piece[i]), rest)?;
-            at += n;
+        for x in piece {
+            at += self.take(kit, schedule, *x, &mut out[at..]);
         }
-        Ok(at)
+        at
     }
 
     // Takes a piece: the bytes that it gives stand at the front of `out`, which holds the rest as before.
@@ -177,7 +149,7 @@ impl Link {
         if out.len() < self.due_count(piece.len()) {
             return Err(Refusal::Output);
         }
-        self.feed(kit, schedule, piece, out)
+        Ok(self.feed(kit, schedule, piece, out))
     }
 
     // Ends the link: its last bytes stand at the front of `out`, which holds the rest as before.

@@ -9,11 +9,24 @@ ghost use Rattle.link.specs.Record.{Fits, link};
 ghost use Rattle.link.specs.Calls.{Took, link_due, link_pad};
 
 use crate::Link;
-use crate::blocks::{coded_byte, mix_byte, opened_block, pad_block, sealed_block, write_front};
+use crate::blocks::{coded_byte, mix_byte, write_front};
 use kit::Kit;
-use modes::Mode;
+use modes::{Direction, Mode};
 
 impl Link {
+    // Takes a byte, as mode and direction say; answers how many bytes now stand at the front of `out`.
+    pub(crate) fn take<K: Kit>(&mut self, kit: &K, schedule: &[u8], x: u8, out: &mut [u8]) -> usize
+        requires fits { Fits self.old }
+        requires room { length (link_due (K.Kit.meaning kit.now) schedule.now self.old x) ≤ length out.old }
+        ensures { Took (K.Kit.meaning kit.now) schedule.now self.old x out.old result self.new out.new }
+    {
+        match (self.mode, self.direction) {
+            (Mode::Cbc, Direction::Send) => self.send_byte(kit, schedule, x, out),
+            (Mode::Cbc, Direction::Receive) => self.receive_byte(kit, schedule, x, out),
+            (Mode::Cfb | Mode::Ofb, _) => self.stream_byte(kit, schedule, x, out),
+        }
+    }
+
     // Sending CBC: a byte that fills the block gives its ciphertext.
     pub(crate) fn send_byte<K: Kit>(
         &mut self,
@@ -33,7 +46,7 @@ impl Link {
             self.count += 1;
             return 0;
         }
-        let block = sealed_block(kit, self.key, schedule, &self.chain, &self.held, self.width);
+        let block = self.seal(kit, schedule, &self.held);
         write_front(out, &block[0..self.width]);
         self.chain = block;
         self.count = 0;
@@ -59,10 +72,9 @@ impl Link {
             self.count += 1;
             return 0;
         }
-        let text = opened_block(kit, self.key, schedule, &self.chain, &self.held, self.width);
+        let text = self.unseal(kit, schedule);
         write_front(out, &text[0..self.width]);
-        let block = self.held;
-        self.chain = block;
+        self.chain = self.held;
         self.held[0] = x;
         self.count = 1;
         self.width
@@ -74,11 +86,9 @@ impl Link {
         ensures pad { take self.old.width self.new.chain ≡ link_pad (K.Kit.meaning kit.now) schedule.now self.old }
         ensures rest { self.new ≡ link self.old self.new.chain self.old.held self.old.count }
     {
-        if self.count > 0 {
-            return;
+        if self.count == 0 {
+            self.chain = self.pad(kit, schedule);
         }
-        let pad = pad_block(kit, self.key, schedule, &self.chain, self.width);
-        self.chain = pad;
     }
 
     // CFB and OFB: of a block's pad and its ciphertext, the mode's is the block before the next one.
@@ -86,11 +96,9 @@ impl Link {
         ensures { self.new ≡ link self.old (rolled self.old.mode self.old.chain self.old.held) self.old.held 0 }
     {
         self.count = 0;
-        if let Mode::Ofb = self.mode {
-            return;
+        if self.mode != Mode::Ofb {
+            self.chain = self.held;
         }
-        let block = self.held;
-        self.chain = block;
     }
 
     // CFB and OFB: each byte is given as it comes.

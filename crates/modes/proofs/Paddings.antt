@@ -1,12 +1,13 @@
 -- The padding of a text and its end. Assumes nothing.
-use Rattle.std.proofs.Common.{◌≡◌, ℕ, zero, suc, ◌+◌, ◌-◌, ◌%◌, ◌<◌, ◌≤◌, Bool, true, false, cond, ◌&&◌, eqb, ◌⊎◌, List, [], ◌∷◌, ◌++◌, length, get_or, take, drop, replicate, Some, None, Option, sym, refl, ap, ◌∙◌, subst, ap₂, inl, inr, ⊎_elim, mod-eq_of_lt, arith, lit<, length-append}
+use Rattle.std.proofs.Common.{◌≡◌, ℕ, zero, suc, ◌+◌, ◌-◌, ◌%◌, ◌<◌, ◌≤◌, Bool, true, false, cond, ◌&&◌, eqb, ◌⊎◌, List, [], ◌∷◌, ◌++◌, length, get_or, take, drop, replicate, Some, None, Option, sym, refl, ap, ◌∙◌, subst, ap₂, inl, inr, ⊎_elim, mod-eq_of_lt, arith, lit<, length-append, ◌≢◌}
 use native.Mathlib.Nat.{add-mod_left}
 use lib.ListN.{length-replicate}
 use Rattle.block.specs.Bytes.{Bytes, Block}
 use Rattle.block.proofs.Parts.{bytes_append}
-use Rattle.std.proofs.lemmas.List.{length-take, length-take-le, take-append-drop, take_all, take-take, take_at, get_or-take, get_or-append_right, drop_all, drop_more}
-use Rattle.std.proofs.lemmas.Bool.{and_left, and_right, and_parts, eq-eqb, ne_eqb, eqb-true, cases_lt}
-use Rattle.block.proofs.Loops.{over}
+use Rattle.std.proofs.lemmas.List.{length-take, length-take-le, take-append-drop, get_or-drop, drop_more, length-drop}
+use Rattle.std.proofs.lemmas.Bool.{and_left, and_right, and_parts, ne_eqb, eqb-true}
+use Rattle.std.specs.List.{All}
+use Rattle.std.proofs.lemmas.List.Elements.{All-head, All-tail, All-from_get_or}
 use Rattle.modes.specs.Padding.{padding, Unpadded, all_zero, or_here, text_end, TextEnd, padded_from}
 
 pub length_padding : (w : ℕ) (text : List ℕ) → 0 < w → length (padding w text) ≤ w
@@ -88,60 +89,29 @@ text_end_law (x ∷ xs) =
 pub answered : (block : List ℕ) (r : Option ℕ) → r ≡ text_end block → TextEnd r block
 answered block r e = subst (λ o. TextEnd o block) (sym e) (text_end_law block)
 
--- ---- the search for it, from the block's last byte back
+-- ---- the search for it
 
--- zeros from i on
-pub record Zeros (block : List ℕ) (i : ℕ) : Type 0 where
-  pub count : ℕ
-  pub are : drop i block ≡ replicate count 0
+zeros_by : (xs : List ℕ) → All (λ b. b ≡ 0) xs → xs ≡ replicate (length xs) 0
+zeros_by [] h = refl
+zeros_by (x ∷ xs) h = ap₂ ◌∷◌ (All-head (λ b. b ≡ 0) x xs h) (zeros_by xs (All-tail (λ b. b ≡ 0) x xs h))
 
-pub zeros_none : (block : List ℕ) (i : ℕ) → length block ≤ i → Zeros block i
-zeros_none block i l = record { count = 0; are = drop_all i block l }
+-- zeros alone have no end
+pub end_none : (block : List ℕ) → All (λ b. b ≡ 0) block → text_end block ≡ None
+end_none block h = ap text_end (zeros_by block h) ∙ (zeros_end (length block)).0
 
-pub zeros_more : (block : List ℕ) (i : ℕ) → i < length block → Zeros block (i + 1) → get_or block i 0 ≡ 0 → Zeros block i
-zeros_more block i l z e = record { count = suc z.count; are = drop_more block i 0 l ∙ ap₂ ◌∷◌ e z.are }
-
-pub zeros_all : (block : List ℕ) → Zeros block 0 → text_end block ≡ None
-zeros_all block z = ap text_end z.are ∙ (zeros_end z.count).0
-
-pub zeros_stop : (block : List ℕ) (i : ℕ) → i < length block → Zeros block (i + 1) → (get_or block i 0 ≡ 0 → ⊥)
+-- what the last byte other than 00 tells
+pub end_last : (block : List ℕ) (i : ℕ) → i < length block → get_or block i 0 ≢ 0 → ((k : ℕ) → i + 1 ≤ k → k < length block → get_or block k 0 ≡ 0)
     → text_end block ≡ cond (eqb (get_or block i 0) 0x80) (Some i) None
-zeros_stop block i l z h =
-    let is : block ≡ take i block ++ (get_or block i 0 ∷ replicate z.count 0) =
-    sym (take-append-drop i block) ∙ ap (λ y. take i block ++ y) (drop_more block i 0 l ∙ ap (λ y. get_or block i 0 ∷ y) z.are) in
-    let long : length (take i block) ≡ i = length-take-le i block (omega arith) in
-    ap text_end is ∙ end_at (take i block) (get_or block i 0) z.count h ∙ ap (λ n. cond (eqb (get_or block i 0) 0x80) (Some n) None) long
-
--- ---- a block padded in place, byte by byte
+end_last block i l h after =
+    let rest = drop (i + 1) block in
+    let read : (k : ℕ) → k < length rest → get_or rest k 0 ≡ 0 = λ k low. get_or-drop (i + 1) block k 0 ∙ after (i + 1 + k) (omega arith) (omega (arith, length-drop (i + 1) block)) in
+    let zeros : rest ≡ replicate (length rest) 0 = zeros_by rest (All-from_get_or (λ b. b ≡ 0) rest 0 read) in
+    let is : block ≡ take i block ++ (get_or block i 0 ∷ replicate (length rest) 0) =
+    sym (take-append-drop i block) ∙ ap (λ y. take i block ++ y) (drop_more block i 0 l ∙ ap (λ y. get_or block i 0 ∷ y) zeros) in
+    ap text_end is ∙ end_at (take i block) (get_or block i 0) (length rest) h ∙ ap (λ n. cond (eqb (get_or block i 0) 0x80) (Some n) None) (length-take-le i block (omega arith))
 
 pub length_padded_from : (n : ℕ) (b : List ℕ) → length (padded_from n b) ≡ length b
 length_padded_from n b = simp (length-take, length-append, length-replicate) (omega arith)
-
-front_kept : (n : ℕ) (b : List ℕ) → take n (padded_from n b) ≡ take n b
-front_kept n b =
-    let p : List ℕ = 0x80 ∷ replicate (length b - 1 - n) 0 in
-    elim (cases_lt n (length b)) [
-      | inl l ↦ take-take n (length b) (take n b ++ p) (omega arith) ∙ take_at (take n b) p n (length-take-le n b (omega arith))
-      | inr l ↦ ap (take n) (ap (λ y. take (length b) (y ++ p)) (take_all n b l) ∙ take_at b p (length b) refl)
-    ]
-
-pub padded_none : (n : ℕ) (b : List ℕ) → b ≡ over (padded_from n b) b n
-padded_none n b = sym (ap (λ y. y ++ drop n b) (front_kept n b) ∙ take-append-drop n b)
-
-zero_at : (n i : ℕ) → ◌≡◌ {A = ℕ} (get_or (replicate n 0) i 0) 0
-zero_at zero i = refl
-zero_at (suc n) zero = refl
-zero_at (suc n) (suc i) = zero_at n i
-
-mark_at : (n i j : ℕ) → j ≡ i - n → n ≤ i → (z : ℕ) → ◌≡◌ {A = ℕ} (get_or (0x80 ∷ replicate z 0) j 0) (cond (eqb i n) 0x80 0)
-mark_at n i zero e l z = ap (λ t. cond t 0x80 0) (sym (eq-eqb i n (omega arith)))
-mark_at n i (suc j) e l z = zero_at z j ∙ ap (λ t. cond t 0x80 0) (sym (ne_eqb i n (λ q. omega arith)))
-
-pub padded_at : (n : ℕ) (b : List ℕ) (i : ℕ) → n ≤ i → i < length b → get_or (padded_from n b) i 0 ≡ cond (eqb i n) 0x80 0
-padded_at n b i l h =
-    let p : List ℕ = 0x80 ∷ replicate (length b - 1 - n) 0 in
-    get_or-take (length b) (take n b ++ p) i 0 h ∙ get_or-append_right (take n b) p n i 0 (length-take-le n b (omega arith)) l
-    ∙ mark_at n i (i - n) refl l (length b - 1 - n)
 
 -- ---- a text and its padding, in two parts
 

@@ -3,3 +3,4 @@ pub mod Padding
 pub mod Modes
 pub mod Machine
 pub mod Laws
+pub mod Numbers

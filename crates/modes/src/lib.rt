@@ -1,11 +1,12 @@
 // The modes CBC, CFB and OFB over any block cipher, and the byte machine of a link.
 // Promises that receiving inverts sending, for every text, in all modes, however the bytes are cut into pieces.
-// Rests on the bytes and the XOR of crate block.
+// Rests on the bytes and the XOR of crate block, and on the refusals of crate refusal.
 #![tactic(auto)]
 
 ghost use Rattle.modes.specs.Laws.{PiecesJoin, SendsCiphertext, OneCiphertext, SameCiphertext, ReceivingInverts, ReceivesPlaintext, ReceivesCiphertext, Counts, EndsCount};
 
 pub mod join;
+mod numbers;
 pub mod padding;
 
 // How each block is chained to the one before.

@@ -1,14 +1,18 @@
-use Rattle.std.proofs.Common.{◌≡◌, length, rules}
-use Rattle.link.proofs.Lengths.{gives_by}
+use Rattle.std.proofs.Common.{rules}
+use Rattle.link.proofs.Lengths.{arrays_from, gives_by}
 use Rattle.link.proofs.Link.due_count.Goals as goal
 
-pub returns : goal.returns
-returns c =
-    let chain_long : length c.args.self.now.chain ≡ 32 = search rules in
-    let held_long : length c.args.self.now.held ≡ 32 = search rules in
-    record {
-      count = c.whole_blocks.ensures;
-      gives = gives_by c.args.self.now c.requires.fits
-          record { chain = record { size = chain_long; bytes = c.are_bytes.ensures }; held = record { size = held_long; bytes = c.are_bytes-2.ensures } }
-          c.args.n c.whole_blocks.result c.whole_blocks.ensures;
-    }
+pub returns-in-Cbc-Send-clause-gives : goal.returns-in-Cbc-Send-clause-gives
+returns-in-Cbc-Send-clause-gives c =
+    let l = c.args.self.now in
+    gives_by l c.requires.fits (arrays_from l (search rules) (λ i. search rules) (search rules) (λ i. search rules)) c.args.n _ (search rules)
+
+pub returns-in-Cbc-Receive-clause-gives : goal.returns-in-Cbc-Receive-clause-gives
+returns-in-Cbc-Receive-clause-gives c =
+    let l = c.args.self.now in
+    gives_by l c.requires.fits (arrays_from l (search rules) (λ i. search rules) (search rules) (λ i. search rules)) c.args.n _ (search rules)
+
+pub returns-in-Cfb-default-clause-gives : goal.returns-in-Cfb-default-clause-gives
+returns-in-Cfb-default-clause-gives c =
+    let l = c.args.self.now in
+    gives_by l c.requires.fits (arrays_from l (search rules) (λ i. search rules) (search rules) (λ i. search rules)) c.args.n _ (search rules)

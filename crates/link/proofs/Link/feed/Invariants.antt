@@ -2,5 +2,6 @@ use Rattle.std.proofs.Common.{take}
 use Rattle.link.specs.Calls.{Fed}
 use Rattle.link.proofs.Link.feed.Given as goal
 
-abbrev pub invariant-loop-i : goal.invariant-loop-i
-invariant-loop-i g l = Fed (g.K.Kit.meaning l.kit) l.schedule l.initial.self (take l.i l.piece) l.initial.out l.at l.self l.out
+-- the bytes so far are taken
+abbrev pub invariant-loop-x : goal.invariant-loop-x
+invariant-loop-x g l = Fed (g.K.Kit.meaning l.kit) l.schedule l.initial.self (take l.x-index l.piece) l.initial.out l.at l.self l.out

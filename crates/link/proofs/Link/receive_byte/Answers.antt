@@ -12,12 +12,12 @@ pub write_front-requires : goal.write_front-requires
 write_front-requires g c =
     let long : length c.args.self.now.held ≡ 32 = search rules in
     receive_room (g.K.Kit.meaning c.args.kit.now) c.args.schedule.now c.args.self.now c.args.x c.args.out.now
-    c.requires.fits c.requires.cbc long c.requires.receives c.opened_block-text.result c.if-self.false c.opened_block-text.ensures c.requires.room
+    c.requires.fits c.requires.cbc long c.requires.receives c.unseal-text.result c.if-self.false c.unseal-text.ensures c.requires.room
 
 pub returns : goal.returns
 returns g c =
     let long : length c.args.self.now.held ≡ 32 = search rules in
-    let whole : length c.opened_block-text.result ≡ 32 = search rules in
+    let whole : length c.unseal-text.result ≡ 32 = search rules in
     receive_full (g.K.Kit.meaning c.args.kit.now) c.args.schedule.now c.args.self.now c.args.x c.args.out.now
-    c.requires.fits c.requires.cbc long c.requires.receives c.opened_block-text.result c.if-self.false c.opened_block-text.ensures
+    c.requires.fits c.requires.cbc long c.requires.receives c.unseal-text.result c.if-self.false c.unseal-text.ensures
     c.write_front.new.out whole c.write_front.ensures

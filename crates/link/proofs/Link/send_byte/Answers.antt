@@ -12,12 +12,12 @@ pub write_front-requires : goal.write_front-requires
 write_front-requires g c =
     let long : length c.args.self.now.held ≡ 32 = search rules in
     send_room (g.K.Kit.meaning c.args.kit.now) c.args.schedule.now c.args.self.now c.args.x c.args.out.now
-    c.requires.fits c.requires.cbc long c.requires.sends c.sealed_block-block.result c.if-self.false c.sealed_block-block.ensures c.requires.room
+    c.requires.fits c.requires.cbc long c.requires.sends c.seal-block.result c.if-self.false c.seal-block.ensures c.requires.room
 
 pub returns : goal.returns
 returns g c =
     let long : length c.args.self.now.held ≡ 32 = search rules in
-    let whole : length c.sealed_block-block.result ≡ 32 = search rules in
+    let whole : length c.seal-block.result ≡ 32 = search rules in
     send_full (g.K.Kit.meaning c.args.kit.now) c.args.schedule.now c.args.self.now c.args.x c.args.out.now
-    c.requires.fits c.requires.cbc long c.requires.sends c.sealed_block-block.result c.if-self.false c.sealed_block-block.ensures
+    c.requires.fits c.requires.cbc long c.requires.sends c.seal-block.result c.if-self.false c.seal-block.ensures
     c.write_front.new.out whole c.write_front.ensures
