@@ -10,6 +10,8 @@ ghost use Rattle.ciphers.specs.Piles.{narrow, coated, pile_meaning};
 
 mod words;
 
+pub use words::UnknownCipher;
+
 use kit::{Kit, Narrow as Width16};
 use layers::{Cascade, Whitening};
 use refusal::Refusal;
