@@ -10,11 +10,10 @@ ghost use Rattle.ciphers.specs.Piles.{narrow, coated, pile_meaning};
 
 mod words;
 
-pub use words::UnknownCipher;
-
 use kit::{Kit, Narrow as Width16};
 use layers::{Cascade, Whitening};
 use refusal::Refusal;
+pub use words::UnknownCipher;
 
 // A cipher with blocks of 16 bytes.
 #[derive(Clone, Copy, PartialEq, Eq, Debug)]
