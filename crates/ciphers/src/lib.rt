@@ -13,6 +13,7 @@ mod words;
 use kit::{Kit, Narrow as Width16};
 use layers::{Cascade, Whitening};
 use refusal::Refusal;
+pub use words::UnknownCipher;
 
 // A cipher with blocks of 16 bytes.
 #[derive(Clone, Copy, PartialEq, Eq, Debug)]

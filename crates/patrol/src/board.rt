@@ -1,5 +1,4 @@
 // What probers need of a set: each beacon once at its nearest, nearest first; then the lists.
-use super::calls::MOST_CELLS;
 use super::set::Transceiver;
 use signal::SignalRecord;
 use std::alloc::{AllocError, Global};
@@ -25,57 +24,47 @@ pub struct Listed {
 impl Board {
     // Reads all lists of a set.
     pub(super) fn of(heap: Global, set: &Transceiver) -> Result<Board, AllocError> {
-        let mut lists = Vec::new(heap);
-        for list in 0..LISTS {
-            let records = whole(heap, set, list)?;
-            if !records.is_empty() {
-                lists.push(Listed { list, records })?;
-            }
-        }
+        let lists = lists(heap, set)?;
         let nearest = nearest(heap, lists.as_slice())?;
         Ok(Board { nearest, lists })
     }
 }
 
-// A whole list of a set.
-pub(super) fn whole(
-    heap: Global,
-    set: &Transceiver,
-    list: usize,
-) -> Result<Vec<SignalRecord>, AllocError> {
-    let mut room = [SignalRecord::BLANK; MOST_CELLS];
-    match set.gather(list, &mut room) {
-        Ok(n) if n <= MOST_CELLS => Vec::from_slice(heap, &room[0..n]),
-        _ => Ok(Vec::new(heap)),
+// The lists of a set that have records.
+pub(super) fn lists(heap: Global, set: &Transceiver) -> Result<Vec<Listed>, AllocError> {
+    let mut all = Vec::new(heap);
+    for list in 0..LISTS {
+        let records = whole(heap, set, list)?;
+        if !records.is_empty() {
+            all.push(Listed { list, records })?;
+        }
+    }
+    Ok(all)
+}
+
+// A whole list of a set; none where there is no such list.
+fn whole(heap: Global, set: &Transceiver, list: usize) -> Result<Vec<SignalRecord>, AllocError> {
+    match set.whole(list) {
+        Ok(records) => Vec::from_slice(heap, records.as_slice()),
+        Err(_) => Ok(Vec::new(heap)),
     }
 }
 
 // Each beacon once, by its nearest record.
 fn by_beacon(heap: Global, lists: &[Listed]) -> Result<BTreeMap<u32, SignalRecord>, AllocError> {
     let mut best: BTreeMap<u32, SignalRecord> = BTreeMap::new(heap);
-    for listed in lists {
-        for record in listed.records.iter() {
-            let nearer = match best.get(&record.beacon) {
-                Some(known) => known.nearer(*record),
-                None => *record,
-            };
-            best.insert(record.beacon, nearer)?;
-        }
+    for record in lists.iter().flat_map(|listed| listed.records.iter()) {
+        best.entry(record.beacon)?
+            .and_modify(|known| *known = known.nearer(*record))
+            .or_insert(*record);
     }
     Ok(best)
 }
 
-// The same, nearest first.
+// The same, nearest first; of two as near, the lower beacon first.
 fn nearest(heap: Global, lists: &[Listed]) -> Result<Vec<SignalRecord>, AllocError> {
-    let best = by_beacon(heap, lists)?;
-    let mut by_distance: BTreeMap<(u16, u32), SignalRecord> = BTreeMap::new(heap);
-    for record in best.values() {
-        by_distance.insert((record.distance, record.beacon), *record)?;
-    }
-    let mut all = Vec::new(heap);
-    for record in by_distance.values() {
-        all.push(*record)?;
-    }
+    let mut all: Vec<SignalRecord> = by_beacon(heap, lists)?.into_values().collect(heap)?;
+    all.sort_unstable_by_key(|record| (record.distance, record.beacon));
     Ok(all)
 }
 

@@ -1,17 +1,42 @@
 // What a set can be asked: each call answers as its shelf does.
-ghost use Rattle.std.specs.Prelude.{◌≡◌, IfOk};
+ghost use Rattle.std.specs.Prelude.{◌≡◌};
 ghost use Rattle.shelf.specs.Standing.{free as free_cells};
-ghost use Rattle.shelf.specs.Calls.{Empty, Sizing, Append, Read, Gather, Drop as Dropping};
-ghost use Rattle.patrol.specs.Sets.{stands, memory};
+ghost use Rattle.shelf.specs.Calls.{Empty, Append, Read, Gather, Drop as Dropping};
+ghost use Rattle.patrol.specs.declared.calls.SizeError.TheVariants.{Refused, Memory};
+ghost use Rattle.patrol.specs.Sets.{stands, memory, Sized, Whole};
 
 use super::set::Transceiver;
+use arrayvec::ArrayVec;
 use refusal::Refusal;
 use shelf::Shelf;
 use signal::SignalRecord;
 use std::alloc::{AllocError, Global};
 
 // As many cells as a shelf can have, and so the longest list.
-pub(super) const MOST_CELLS: usize = 256;
+const MOST_CELLS: usize = 256;
+
+// Why a set is given no cells: its shelf refuses, or no memory is left.
+#[derive(Clone, Copy)]
+pub(super) enum SizeError {
+    Refused(Refusal),
+    Memory(AllocError),
+}
+
+impl From<Refusal> for SizeError {
+    ghost from_gives = { λ refusal e. e ≡ Refused refusal };
+
+    fn from(refusal: Refusal) -> SizeError {
+        SizeError::Refused(refusal)
+    }
+}
+
+impl From<AllocError> for SizeError {
+    ghost from_gives = { λ none e. e ≡ Memory none };
+
+    fn from(e: AllocError) -> SizeError {
+        SizeError::Memory(e)
+    }
+}
 
 impl Transceiver {
     // A set without cells.
@@ -32,16 +57,14 @@ impl Transceiver {
     }
 
     // Sets the number of cells, once, and brings their memory.
-    pub(super) fn size(&mut self, heap: Global, n: usize) -> Result<Result<(), Refusal>, AllocError>
-        ensures { IfOk result (λ answer. Sizing (stands self.old) n answer (stands self.new)) }
+    pub(super) fn size(&mut self, heap: Global, n: usize) -> Result<(), SizeError>
+        ensures { Sized (stands self.old) n result (stands self.new) }
     {
         let room = if n <= MOST_CELLS { n } else { 0 };
-        let cells = vec![in heap; SignalRecord::BLANK; room]?;
-        let answer = self.shelf.size(n);
-        if answer.is_ok() {
-            self.cells = cells;
-        }
-        Ok(answer)
+        let cells = vec![in heap; SignalRecord::default(); room]?;
+        self.shelf.size(n)?;
+        self.cells = cells;
+        Ok(())
     }
 
     // Adds records at the end of a list: all of them or none.
@@ -65,13 +88,19 @@ impl Transceiver {
         self.shelf.gather(self.cells.as_slice(), list, out)
     }
 
+    // A whole list.
+    pub(super) fn whole(&self, list: usize) -> Result<ArrayVec<SignalRecord, MOST_CELLS>, Refusal>
+        ensures { Whole (λ records. records.items) (stands self.now) (memory self.now) list result }
+    {
+        let mut records = ArrayVec::from([SignalRecord::default(); MOST_CELLS]);
+        let count = self.gather(list, records.as_mut_slice())?;
+        records.truncate(count);
+        Ok(records)
+    }
+
     // How many records a list has; none where there is no such list.
     pub(super) fn count(&self, list: usize) -> usize {
-        let mut room = [SignalRecord::BLANK; MOST_CELLS];
-        match self.gather(list, &mut room) {
-            Ok(n) => n,
-            Err(_) => 0,
-        }
+        self.whole(list).map_or(0, |records| records.len())
     }
 
     // Loses a list: its cells are free again.

@@ -1,25 +1,19 @@
 // A search under way: the sets by name, the leader's first, and what each statement does to them.
-use super::board::Board;
-use super::event::Event;
+use super::board::{Board, lists};
+use super::event::{Event, Undone};
 use super::set::Transceiver;
 use super::{season, steps};
+use indexmap::IndexMap;
+use itertools::Itertools;
 use searchfile::{Action, Fault, Role};
 use std::alloc::{AllocError, Global};
-use std::collections::BTreeMap;
-
-#[derive(Drop)]
-struct Member {
-    name: String,
-    set: Transceiver,
-}
 
 #[derive(Drop)]
 pub struct Search {
-    // empty until the file has told it
-    title: String,
-    // The leader first. A patroller's place is its number, and that of the leader's list for its reports.
-    members: Vec<Member>,
-    places: BTreeMap<String, usize>,
+    // once the file has told it
+    title: Option<String>,
+    // By name, the leader first. A patroller's place is its number, and that of the leader's list for its reports.
+    sets: IndexMap<String, Transceiver>,
     second: u32,
 }
 
@@ -27,24 +21,18 @@ impl Search {
     // A search of which nothing is told yet.
     pub fn new(heap: Global) -> Search {
         Search {
-            title: String::new(heap),
-            members: Vec::new(heap),
-            places: BTreeMap::new(heap),
+            title: None,
+            sets: IndexMap::new(heap),
             second: 0,
         }
     }
 
     // Its title, with one space between words.
-    pub fn begin(&mut self, title: &str) -> Result<(), Fault> {
-        if !self.title.as_str().is_empty() {
+    pub fn begin(&mut self, heap: Global, title: &str) -> Result<(), Fault> {
+        if self.title.is_some() {
             return Err(Fault::OneSearch);
         }
-        for word in title.split_whitespace() {
-            if !self.title.as_str().is_empty() {
-                self.title.push(' ')?;
-            }
-            self.title.push_str(word)?;
-        }
+        self.title = Some(spaced(heap, title)?);
         Ok(())
     }
 
@@ -57,28 +45,23 @@ impl Search {
         cells: usize,
     ) -> Result<Event, Fault> {
         self.may_join(role)?;
-        if self.places.contains_key(name) {
+        if self.sets.contains_key(name) {
             return Err(Fault::NewName);
         }
         let mut set = Transceiver::new(heap);
-        let event = steps::sized(&mut set, heap, cells)?;
-        let place = self.members.len();
-        self.places.insert(String::from_str(heap, name)?, place)?;
-        self.members.push(Member {
-            name: String::from_str(heap, name)?,
-            set,
-        })?;
+        let event = told(steps::sized(&mut set, heap, cells))?;
+        self.sets.insert(String::from_str(heap, name)?, set)?;
         Ok(event)
     }
 
     // The title comes first, then one leader, then patrollers.
     fn may_join(&self, role: Role) -> Result<(), Fault> {
-        if self.title.as_str().is_empty() {
+        if self.title.is_none() {
             return Err(Fault::SearchFirst);
         }
         match role {
-            Role::Leader if !self.members.is_empty() => Err(Fault::OneLeader),
-            Role::Patroller if self.members.is_empty() => Err(Fault::LeaderFirst),
+            Role::Leader if !self.sets.is_empty() => Err(Fault::OneLeader),
+            Role::Patroller if self.sets.is_empty() => Err(Fault::LeaderFirst),
             _ => Ok(()),
         }
     }
@@ -91,88 +74,80 @@ impl Search {
         name: &str,
         action: &Action,
     ) -> Result<Event, Fault> {
-        if self.members.is_empty() {
+        if self.sets.is_empty() {
             return Err(Fault::LeaderFirst);
         }
-        let Some(place) = self.places.get(name).copied() else {
-            return Err(Fault::KnownName);
-        };
+        let (place, _, _) = self.sets.get_full(name).ok_or(Fault::KnownName)?;
         if second < self.second {
             return Err(Fault::LaterTime);
         }
         self.second = second;
-        match action {
+        told(match action {
             Action::Report { list } => self.report(place, *list),
-            _ => match self.members.get_mut(place) {
-                Some(member) => done(heap, &mut member.set, action),
-                None => Err(Fault::KnownName),
-            },
-        }
+            _ => self.done(heap, place, action),
+        })
     }
 
     // A patroller's list goes to the leader's set, onto the list with the patroller's number.
-    fn report(&mut self, place: usize, list: usize) -> Result<Event, Fault> {
-        if place == 0 {
-            return Err(Fault::PatrollerName);
+    fn report(&mut self, place: usize, list: usize) -> Result<Event, Undone> {
+        let after_leader = place.checked_sub(1).ok_or(Fault::PatrollerName)?;
+        let mut sets = self.sets.values_mut();
+        let leader = sets.next().ok_or(Fault::LeaderFirst)?;
+        let patroller = sets.nth(after_leader).ok_or(Fault::KnownName)?;
+        Ok(steps::reported(patroller, list, leader, place)?)
+    }
+
+    // What one set does for itself.
+    fn done(&mut self, heap: Global, place: usize, action: &Action) -> Result<Event, Undone> {
+        let set = self.sets.get_index_mut(place).ok_or(Fault::KnownName)?;
+        match action {
+            Action::Hear { record, list } => Ok(steps::heard(set, *list, &[*record])?),
+            Action::Sweep { list, records } => Ok(steps::heard(set, *list, records.as_slice())?),
+            Action::Lose { list } => Ok(steps::lost(set, *list)?),
+            Action::Read { list, position } => Ok(steps::told(set, *list, *position)?),
+            Action::Get { cells } => steps::sized(set, heap, *cells),
+            Action::List => Ok(Event::Listed),
+            Action::Key { cipher, bytes } => Ok(steps::keyed(set, *cipher, *bytes)?),
+            Action::Report { list: _ } => Err(Undone::from(Fault::PatrollerName)),
         }
-        let Some((leader, patrollers)) = self.members.as_mut_slice().split_first_mut() else {
-            return Err(Fault::LeaderFirst);
-        };
-        let Some(patroller) = patrollers.get(place - 1) else {
-            return Err(Fault::KnownName);
-        };
-        Ok(steps::reported(&patroller.set, list, &mut leader.set, place))
     }
 
     // What probers need of a set.
     pub fn board(&self, heap: Global, name: &str) -> Result<Board, Fault> {
-        let Some(place) = self.places.get(name).copied() else {
-            return Err(Fault::KnownName);
-        };
-        match self.members.get(place) {
-            Some(member) => Ok(Board::of(heap, &member.set)?),
-            None => Err(Fault::KnownName),
-        }
+        let set = self.sets.get(name).ok_or(Fault::KnownName)?;
+        Ok(Board::of(heap, set)?)
     }
 
     // The leader's name, once the file has told it.
     pub fn leader(&self) -> Result<&str, Fault> {
-        match self.members.first() {
-            Some(leader) => Ok(leader.name.as_str()),
-            None => Err(Fault::Ends),
-        }
+        let (name, _) = self.sets.first().ok_or(Fault::Ends)?;
+        Ok(name.as_str())
     }
 
     // Adds the season's lines of this search: every record that a set lists now, set by set.
     pub fn season(&self, heap: Global, text: &mut String) -> Result<(), Fault> {
-        for member in self.members.iter() {
-            let board = Board::of(heap, &member.set)?;
-            for listed in board.lists.iter() {
-                for record in listed.records.iter() {
-                    let line = season::line(
-                        heap,
-                        self.title.as_str(),
-                        member.name.as_str(),
-                        *record,
-                    )?;
-                    text.push_str(line.as_str())?;
-                }
+        let title = self.title.as_ref().map_or("", |title| title.as_str());
+        for (name, set) in self.sets.iter() {
+            let lists = lists(heap, set)?;
+            for record in lists.iter().flat_map(|listed| listed.records.iter()) {
+                let line = season::line(heap, title, name.as_str(), *record)?;
+                text.push_str(line.as_str())?;
             }
         }
         Ok(())
     }
 }
 
-// What one set does for itself.
-fn done(heap: Global, set: &mut Transceiver, action: &Action) -> Result<Event, Fault> {
-    match action {
-        Action::Hear { record, list } => Ok(steps::heard(set, *list, &[*record])),
-        Action::Sweep { list, records } => Ok(steps::heard(set, *list, records.as_slice())),
-        Action::Lose { list } => Ok(steps::lost(set, *list)),
-        Action::Read { list, position } => Ok(steps::told(set, *list, *position)),
-        Action::Get { cells } => Ok(steps::sized(set, heap, *cells)?),
-        Action::List => Ok(Event::Listed),
-        Action::Key { cipher, bytes } => Ok(steps::keyed(set, *cipher, *bytes)),
-        Action::Report { list: _ } => Err(Fault::PatrollerName),
+// A text with one space between words.
+fn spaced(heap: Global, text: &str) -> Result<String, AllocError> {
+    text.split_whitespace().intersperse(" ").collect(heap)
+}
+
+// A refusal is told as an event; a fault stays one.
+fn told(done: Result<Event, Undone>) -> Result<Event, Fault> {
+    match done {
+        Ok(event) => Ok(event),
+        Err(Undone::Refused(refused)) => Ok(Event::Refused(refused)),
+        Err(Undone::Fault(fault)) => Err(fault),
     }
 }

@@ -1,7 +1,9 @@
 // What comes of a step: accepted with counts, or refused, with what was free and what was needed.
 use ciphers::Pile;
 use refusal::Refusal;
+use searchfile::Fault;
 use signal::SignalRecord;
+use std::alloc::AllocError;
 use std::fmt;
 
 #[derive(Clone, Copy)]
@@ -36,85 +38,93 @@ pub enum Event {
         bytes: usize,
         cells: usize,
     },
-    Refused {
-        refusal: Refusal,
-        free: usize,
-        needed: usize,
-    },
+    Refused(Refused),
 }
 
-// A count of things, with its noun.
+// A refusal, with the cells that were free then and those that were needed.
 #[derive(Clone, Copy)]
-struct Count {
-    n: usize,
-    one: &'static str,
-    many: &'static str,
+pub struct Refused {
+    pub refusal: Refusal,
+    pub free: usize,
+    pub needed: usize,
 }
 
-fn records(n: usize) -> Count {
-    Count {
-        n,
-        one: "record",
-        many: "records",
+// Why a step is not done: a set refuses it, which is told as an event, or its line is at fault.
+#[derive(Clone, Copy)]
+pub(super) enum Undone {
+    Refused(Refused),
+    Fault(Fault),
+}
+
+impl From<Refused> for Undone {
+    fn from(refused: Refused) -> Undone {
+        Undone::Refused(refused)
     }
 }
 
-fn cells(n: usize) -> Count {
-    Count {
-        n,
-        one: "cell",
-        many: "cells",
+impl From<Fault> for Undone {
+    fn from(fault: Fault) -> Undone {
+        Undone::Fault(fault)
     }
 }
 
-fn key_cells(n: usize) -> Count {
-    Count {
-        n,
-        one: "key cell",
-        many: "key cells",
+impl From<AllocError> for Undone {
+    fn from(e: AllocError) -> Undone {
+        Undone::Fault(Fault::from(e))
     }
 }
+
+// A count of things, and their noun.
+#[derive(Clone, Copy)]
+struct Count(usize, &'static str);
 
 impl fmt::Display for Count {
     fn fmt<W: fmt::Write>(&self, f: &mut fmt::Formatter<W>) -> fmt::Result {
-        let n = self.n;
-        let noun = if n == 1 { self.one } else { self.many };
-        write!(f, "{n} {noun}")
+        let Count(n, noun) = *self;
+        let plural = if n == 1 { "" } else { "s" };
+        write!(f, "{n} {noun}{plural}")
     }
 }
 
 impl fmt::Display for Event {
     fn fmt<W: fmt::Write>(&self, f: &mut fmt::Formatter<W>) -> fmt::Result {
         match *self {
-            Event::Sized { cells: n } => write!(f, "has {}", cells(n)),
+            Event::Sized { cells } => write!(f, "has {}", Count(cells, "cell")),
             Event::Heard {
                 list,
-                records: n,
+                records,
                 free,
-            } => { write!(f, "{} onto list {list}, {} free", records(n), cells(free)) }
+            } => {
+                write!(
+                    f,
+                    "{} onto list {list}, {} free",
+                    Count(records, "record"),
+                    Count(free, "cell")
+                )
+            }
             Event::Reported {
                 list,
-                records: n,
+                records,
                 onto,
                 free,
             } => {
                 write!(
                     f,
                     "reports list {list}: {} onto the leader's list {onto}, {} free there",
-                    records(n),
-                    cells(free)
+                    Count(records, "record"),
+                    Count(free, "cell")
                 )
             }
             Event::Lost {
                 list,
-                records: n,
+                records,
                 free,
             } => {
                 write!(
                     f,
                     "loses list {list}: {} gone, {} free",
-                    records(n),
-                    cells(free)
+                    Count(records, "record"),
+                    Count(free, "cell")
                 )
             }
             Event::Told {
@@ -126,35 +136,33 @@ impl fmt::Display for Event {
             Event::Keyed {
                 cipher,
                 bytes,
-                cells: n,
+                cells,
             } => {
                 write!(
                     f,
                     "would use {cipher}, key of {bytes} bytes: a link needs {}",
-                    key_cells(n)
+                    Count(cells, "key cell")
                 )
             }
-            Event::Refused {
-                refusal,
-                free,
-                needed,
-            } => refused(f, refusal, free, needed),
+            Event::Refused(refused) => write!(f, "{refused}"),
         }
     }
 }
 
-fn refused<W: fmt::Write>(
-    f: &mut fmt::Formatter<W>,
-    refusal: Refusal,
-    free: usize,
-    needed: usize,
-) -> fmt::Result {
-    let number = refusal.number();
-    match refusal {
-        Refusal::Cells => write!(
-            f,
-            "refused {number}: {refusal} ({free} free, {needed} needed)"
-        ),
-        _ => write!(f, "refused {number}: {refusal}"),
+impl fmt::Display for Refused {
+    fn fmt<W: fmt::Write>(&self, f: &mut fmt::Formatter<W>) -> fmt::Result {
+        let Refused {
+            refusal,
+            free,
+            needed,
+        } = *self;
+        let number = refusal.number();
+        match refusal {
+            Refusal::Cells => write!(
+                f,
+                "refused {number}: {refusal} ({free} free, {needed} needed)"
+            ),
+            _ => write!(f, "refused {number}: {refusal}"),
+        }
     }
 }

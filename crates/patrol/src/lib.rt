@@ -13,5 +13,5 @@ mod steps;
 
 pub use board::{Board, Listed};
 pub use course::Search;
-pub use event::Event;
+pub use event::{Event, Refused};
 pub use season::HEADING;

@@ -6,7 +6,7 @@
 mod options;
 mod run;
 
-use options::{Options, Wrong};
+use options::{Asked, Options, Wrong};
 use run::Stop;
 use std::process::ExitCode;
 use std::{env, fs, io};
@@ -26,55 +26,48 @@ number and what was expected there; no season's file is written then.";
 fn main(rt: HostRuntime) -> ExitCode {
     match start(&rt) {
         Ok(()) => ExitCode::SUCCESS,
-        // what is wrong has been told
-        Err(_) => ExitCode::FAILURE,
+        Err(Stop) => ExitCode::FAILURE,
     }
 }
 
 // Does what the words after the program's name ask for.
 fn start(rt: &HostRuntime) -> Result<(), Stop> {
-    let mut words = Vec::new(rt.alloc());
-    for word in env::args(rt)?.skip(1) {
-        match words.push(word) {
-            Ok(()) => {}
-            Err(_) => return wrong(rt, Wrong::Memory),
-        }
-    }
-    match Options::read(rt.alloc(), words.as_slice()) {
-        Ok(options) if options.help => Ok(rt.println(HELP)?),
-        Ok(options) => all(rt, &options),
-        Err(what) => wrong(rt, what),
+    let words = env::args(rt)?.skip(1).collect::<Vec<String>>(rt.alloc());
+    let asked = words
+        .map_err(Wrong::from)
+        .and_then(|words| Asked::read(rt.alloc(), words.as_slice()));
+    match asked.map_err(|what| wrong(rt, what))? {
+        Asked::Help => Ok(rt.println(HELP)?),
+        Asked::Run(options) => all(rt, &options),
     }
 }
 
-fn wrong(rt: &HostRuntime, what: Wrong) -> Result<(), Stop> {
-    let text = what.words();
-    eprintln!(rt; "search: {text}")?;
-    Err(Stop::Told)
+// Tells what is wrong with the words.
+fn wrong(rt: &HostRuntime, what: Wrong) -> Stop {
+    let _ = eprintln!(rt; "search: {what}");
+    Stop
 }
 
 // Every file in turn; only when all is well, the season's file.
 fn all(rt: &HostRuntime, options: &Options) -> Result<(), Stop> {
     if options.replaces_a_file() {
-        return wrong(rt, Wrong::Replaces);
+        return Err(wrong(rt, Wrong::Replaces));
     }
-    let path = options.season.as_str();
-    let mut season = String::new(rt.alloc());
-    if season.push_str(patrol::HEADING).is_err() {
-        return wrong(rt, Wrong::Memory);
-    }
+    let mut season = String::from_str(rt.alloc(), patrol::HEADING).map_err(|e| wrong(
+        rt,
+        Wrong::from(e),
+    ))?;
     for name in options.files.iter() {
         run::file(rt, name.as_str(), &mut season)?;
     }
-    if path.is_empty() {
-        print!(rt; "\n{season}")?;
-        return Ok(());
+    match &options.season {
+        None => Ok(print!(rt; "\n{season}")?),
+        Some(path) => save(rt, path.as_str(), season.as_str()).map_err(|e| run::unusable(
+            rt,
+            path.as_str(),
+            e,
+        )),
     }
-    if let Err(e) = save(rt, path, season.as_str()) {
-        eprintln!(rt; "search: {path}: {e}")?;
-        return Err(Stop::Told);
-    }
-    Ok(())
 }
 
 // Writes a file beside the old one and then puts it in its place, so that a full disk takes nothing away.

@@ -1,98 +1,97 @@
 // One search file after another: reads, goes through the lines, prints what comes of each.
-use patrol::{Board, Event, Search};
+use patrol::{Event, Search};
 use searchfile::{Action, Fault, Statement};
 use signal::Clock;
 use std::{fs, io};
+use thiserror::Error;
 
-// Why the program stops before its end. What is wrong has then been told.
-#[derive(Debug, Drop)]
-pub enum Stop {
-    Told,
-    Printing,
-}
+// The program stops before its end. What is wrong has then been told.
+pub struct Stop;
 
 impl From<io::Error> for Stop {
     fn from(_e: io::Error) -> Stop {
-        Stop::Printing
+        Stop
     }
+}
+
+// Why a line is not gone through: it is at fault, or what comes of it can't be printed.
+#[derive(Debug, Drop, Error)]
+enum Undone {
+    #[error(transparent)]
+    Fault(#[from] Fault),
+    #[error(transparent)]
+    Printing(#[from] io::Error),
 }
 
 // Goes through one file, and adds its records to the season's text.
 pub fn file(rt: &HostRuntime, path: &str, season: &mut String) -> Result<(), Stop> {
-    let bytes = match fs::read(rt, path) {
-        Ok(bytes) => bytes,
-        Err(e) => {
-            eprintln!(rt; "search: {path}: {e}")?;
-            return Err(Stop::Told);
-        }
-    };
-    let text = match std::str::from_utf8(bytes.as_slice()) {
-        Ok(text) => text,
-        Err(e) => {
-            let number = lines_before(bytes.as_slice(), e.valid_up_to());
-            return told(rt, path, number, Fault::Text, "");
-        }
-    };
+    let bytes = fs::read(rt, path).map_err(|e| unusable(rt, path, e))?;
+    let text = std::str::from_utf8(bytes.as_slice()).map_err(|e| {
+        let number = line_of(bytes.as_slice(), e.valid_up_to());
+        told(rt, path, number, "", Undone::Fault(Fault::Text))
+    })?;
     through(rt, path, text, season)
 }
 
+// Tells of a file that can't be read or written.
+pub fn unusable(rt: &HostRuntime, path: &str, e: io::Error) -> Stop {
+    let _ = eprintln!(rt; "search: {path}: {e}");
+    Stop
+}
+
 // The number of the line that a byte stands on.
-fn lines_before(bytes: &[u8], at: usize) -> usize {
-    let mut number: usize = 1;
-    for b in bytes.iter().take(at) {
-        if *b == b'\n' {
-            number = number.saturating_add(1);
-        }
-    }
-    number
+fn line_of(bytes: &[u8], at: usize) -> usize {
+    let ends = bytes.iter().take(at).filter(|b| **b == b'\n').count();
+    ends.saturating_add(1)
 }
 
 // Goes through the lines of a text.
 fn through(rt: &HostRuntime, path: &str, text: &str, season: &mut String) -> Result<(), Stop> {
     let mut search = Search::new(rt.alloc());
-    let mut number: usize = 0;
-    for line in text.lines() {
-        number = number.saturating_add(1);
-        if let Err(fault) = one(rt, &mut search, line)? {
-            return told(rt, path, number, fault, line);
-        }
+    for (number, line) in (1..).zip(text.lines()) {
+        one(rt, &mut search, line).map_err(|undone| told(rt, path, number, line, undone))?;
     }
-    match ending(rt, &search, season)? {
-        Ok(()) => Ok(()),
-        Err(fault) => told(rt, path, number.saturating_add(1), fault, ""),
-    }
+    ending(rt, &search, season).map_err(|undone| {
+        let number = text.lines().count().saturating_add(1);
+        told(rt, path, number, "", undone)
+    })
 }
 
 // Tells a bad line: where, what was expected, and the line's beginning.
-fn told(rt: &HostRuntime, path: &str, number: usize, fault: Fault, line: &str) -> Result<(), Stop> {
-    eprintln!(rt; "{path}:{number}: {fault}")?;
-    let mut shown = String::new(rt.alloc());
-    for c in line.trim().chars().take(100) {
-        let _ = shown.push(if c < ' ' { '?' } else { c });
+fn told(rt: &HostRuntime, path: &str, number: usize, line: &str, undone: Undone) -> Stop {
+    let Undone::Fault(fault) = undone else {
+        return Stop;
+    };
+    let _ = eprintln!(rt; "{path}:{number}: {fault}");
+    let shown = line
+        .trim()
+        .chars()
+        .take(100)
+        .map(|c| if c < ' ' { '?' } else { c })
+        .collect::<String>(rt.alloc());
+    if let Ok(shown) = shown
+        && !shown.is_empty()
+    {
+        let _ = eprintln!(rt; "    {shown}");
     }
-    if !shown.as_str().is_empty() {
-        eprintln!(rt; "    {shown}")?;
-    }
-    Err(Stop::Told)
+    Stop
 }
 
 // One line: what it says is done, and what came of it printed.
-fn one(rt: &HostRuntime, search: &mut Search, line: &str) -> Result<Result<(), Fault>, io::Error> {
+fn one(rt: &HostRuntime, search: &mut Search, line: &str) -> Result<(), Undone> {
     let heap = rt.alloc();
-    let statement = match searchfile::parse(heap, line) {
-        Ok(statement) => statement,
-        Err(fault) => return Ok(Err(fault)),
-    };
-    match statement {
-        Statement::Blank => Ok(Ok(())),
-        Statement::Title { title } => begin(rt, search, title),
-        Statement::Set { role, name, cells } => match search.declare(heap, role, name, cells) {
-            Ok(event) => {
-                println!(rt; "{role} {name}: {event}")?;
-                Ok(Ok(()))
-            }
-            Err(fault) => Ok(Err(fault)),
-        },
+    match searchfile::parse(heap, line)? {
+        Statement::Blank => Ok(()),
+        Statement::Title { title } => {
+            search.begin(heap, title)?;
+            println!(rt; "search {title}")?;
+            Ok(())
+        }
+        Statement::Set { role, name, cells } => {
+            let event = search.declare(heap, role, name, cells)?;
+            println!(rt; "{role} {name}: {event}")?;
+            Ok(())
+        }
         Statement::Step {
             second,
             name,
@@ -101,61 +100,34 @@ fn one(rt: &HostRuntime, search: &mut Search, line: &str) -> Result<Result<(), F
     }
 }
 
-fn begin(
-    rt: &HostRuntime,
-    search: &mut Search,
-    title: &str,
-) -> Result<Result<(), Fault>, io::Error> {
-    if let Err(fault) = search.begin(title) {
-        return Ok(Err(fault));
-    }
-    println!(rt; "search {title}")?;
-    Ok(Ok(()))
-}
-
 fn step(
     rt: &HostRuntime,
     search: &mut Search,
     second: u32,
     name: &str,
     action: Action,
-) -> Result<Result<(), Fault>, io::Error> {
-    let event = match search.act(rt.alloc(), second, name, &action) {
-        Ok(event) => event,
-        Err(fault) => return Ok(Err(fault)),
-    };
+) -> Result<(), Undone> {
+    let event = search.act(rt.alloc(), second, name, &action)?;
     let time = Clock(second);
     println!(rt; "{time} {name}: {event}")?;
     match event {
         Event::Listed => lists(rt, search, name),
-        _ => Ok(Ok(())),
+        _ => Ok(()),
     }
 }
 
 // Prints what a set's lists tell the probers.
-fn lists(rt: &HostRuntime, search: &Search, name: &str) -> Result<Result<(), Fault>, io::Error> {
-    match search.board(rt.alloc(), name) {
-        Ok(board) => {
-            print!(rt; "{board}")?;
-            Ok(Ok(()))
-        }
-        Err(fault) => Ok(Err(fault)),
-    }
+fn lists(rt: &HostRuntime, search: &Search, name: &str) -> Result<(), Undone> {
+    let board = search.board(rt.alloc(), name)?;
+    print!(rt; "{board}")?;
+    Ok(())
 }
 
 // The end of a search: the leader reads the lists, and the season gets its lines.
-fn ending(
-    rt: &HostRuntime,
-    search: &Search,
-    season: &mut String,
-) -> Result<Result<(), Fault>, io::Error> {
-    let leader = match search.leader() {
-        Ok(leader) => leader,
-        Err(fault) => return Ok(Err(fault)),
-    };
+fn ending(rt: &HostRuntime, search: &Search, season: &mut String) -> Result<(), Undone> {
+    let leader = search.leader()?;
     println!(rt; "the search ends; {leader} lists")?;
-    if let Err(fault) = lists(rt, search, leader)? {
-        return Ok(Err(fault));
-    }
-    Ok(search.season(rt.alloc(), season))
+    lists(rt, search, leader)?;
+    search.season(rt.alloc(), season)?;
+    Ok(())
 }

@@ -73,10 +73,7 @@ impl fmt::Display for Role {
 
 // The statement on a line.
 pub fn parse<'a>(heap: Global, line: &'a str) -> Result<Statement<'a>, Fault> {
-    let told = match line.split_once('#') {
-        Some((before, _)) => before,
-        None => line,
-    };
+    let told = line.split_once('#').map_or(line, |(before, _)| before);
     let words = words(heap, told)?;
     match words.as_slice() {
         [] => Ok(Statement::Blank),
@@ -90,25 +87,19 @@ pub fn parse<'a>(heap: Global, line: &'a str) -> Result<Statement<'a>, Fault> {
 
 // The words of a line, without the marks behind them.
 fn words<'a>(heap: Global, told: &'a str) -> Result<Vec<&'a str>, AllocError> {
-    let mut all = Vec::new(heap);
-    for word in told.split_whitespace() {
-        let bare = word.trim_end_matches([',', ';', ':']);
-        if !bare.is_empty() {
-            all.push(bare)?;
-        }
-    }
-    Ok(all)
+    told.split_whitespace()
+        .map(|word| word.trim_end_matches([',', ';', ':']))
+        .filter(|bare| !bare.is_empty())
+        .collect(heap)
 }
 
 fn title<'a>(told: &'a str) -> Result<Statement<'a>, Fault> {
-    let Some(rest) = told.trim().strip_prefix("search") else {
-        return Err(Fault::TitleForm);
-    };
-    let title = rest.trim();
-    if title.is_empty() {
-        return Err(Fault::TitleForm);
-    }
-    Ok(Statement::Title { title })
+    told.trim()
+        .strip_prefix("search")
+        .map(|rest| rest.trim())
+        .filter(|title| !title.is_empty())
+        .map(|title| Statement::Title { title })
+        .ok_or(Fault::TitleForm)
 }
 
 fn declared<'a>(role: Role, rest: &[&'a str]) -> Result<Statement<'a>, Fault> {
@@ -126,20 +117,18 @@ fn step<'a>(
     does: &str,
     rest: &[&str],
 ) -> Result<Statement<'a>, Fault> {
-    let Some(second) = signal::clock(time) else {
-        return Err(Fault::Time);
-    };
+    let second = signal::clock(time).ok_or(Fault::Time)?;
     let action = match does {
-        "hears" => hears(second, rest)?,
-        "sweeps" => sweeps(heap, second, rest)?,
-        "reports" => reports(rest)?,
-        "loses" => loses(rest)?,
-        "reads" => reads(rest)?,
-        "lists" => lists(rest)?,
-        "gets" => gets(rest)?,
-        "keys" => keys(rest)?,
-        _ => return Err(Fault::Statement),
-    };
+        "hears" => hears(second, rest),
+        "sweeps" => sweeps(heap, second, rest),
+        "reports" => one_list(rest, Fault::ReportsForm).map(|list| Action::Report { list }),
+        "loses" => one_list(rest, Fault::LosesForm).map(|list| Action::Lose { list }),
+        "reads" => reads(rest),
+        "lists" => lists(rest),
+        "gets" => gets(rest),
+        "keys" => keys(rest),
+        _ => Err(Fault::Statement),
+    }?;
     Ok(Statement::Step {
         second,
         name,
@@ -172,30 +161,22 @@ fn sweeps(heap: Global, second: u32, rest: &[&str]) -> Result<Action, Fault> {
         return Err(Fault::SweepsForm);
     };
     let list = number(list)?;
-    let mut records = Vec::new(heap);
-    for of_one in figures.chunks(4) {
-        let [beacon, distance, "m", strength] = of_one else {
-            return Err(Fault::SweepsForm);
-        };
-        records.push(record(second, beacon, distance, strength)?)?;
-    }
+    let records = figures
+        .chunks(4)
+        .map(|of_one| match of_one {
+            [beacon, distance, "m", strength] => record(second, beacon, distance, strength),
+            _ => Err(Fault::SweepsForm),
+        })
+        .try_collect(heap)?;
     Ok(Action::Sweep { list, records })
 }
 
-fn reports(rest: &[&str]) -> Result<Action, Fault> {
+// The list that an action names alone.
+fn one_list(rest: &[&str], form: Fault) -> Result<usize, Fault> {
     let ["list", list] = rest else {
-        return Err(Fault::ReportsForm);
+        return Err(form);
     };
-    let list = number(list)?;
-    Ok(Action::Report { list })
-}
-
-fn loses(rest: &[&str]) -> Result<Action, Fault> {
-    let ["list", list] = rest else {
-        return Err(Fault::LosesForm);
-    };
-    let list = number(list)?;
-    Ok(Action::Lose { list })
+    number(list)
 }
 
 fn reads(rest: &[&str]) -> Result<Action, Fault> {
@@ -227,9 +208,7 @@ fn keys(rest: &[&str]) -> Result<Action, Fault> {
     let [cipher @ .., "with", bytes, "bytes"] = rest else {
         return Err(Fault::KeysForm);
     };
-    let Some(cipher) = Pile::named(cipher) else {
-        return Err(Fault::CipherForm);
-    };
+    let cipher = Pile::named(cipher).ok_or(Fault::CipherForm)?;
     let bytes = number(bytes)?;
     Ok(Action::Key { cipher, bytes })
 }
@@ -237,24 +216,15 @@ fn keys(rest: &[&str]) -> Result<Action, Fault> {
 fn number(text: &str) -> Result<usize, Fault>
     ensures { Numbered text.now result }
 {
-    match signal::number(text) {
-        Some(n) => Ok(n),
-        None => Err(Fault::Number),
-    }
+    signal::number(text).ok_or(Fault::Number)
 }
 
 fn record(second: u32, beacon: &str, distance: &str, strength: &str) -> Result<SignalRecord, Fault>
     ensures { Recorded second beacon.now distance.now strength.now result }
 {
-    let Some(beacon) = signal::beacon(beacon) else {
-        return Err(Fault::Beacon);
-    };
-    let Some(distance) = signal::metres(distance) else {
-        return Err(Fault::Distance);
-    };
-    let Some(strength) = signal::strength(strength) else {
-        return Err(Fault::Strength);
-    };
+    let beacon = signal::beacon(beacon).ok_or(Fault::Beacon)?;
+    let distance = signal::metres(distance).ok_or(Fault::Distance)?;
+    let strength = signal::strength(strength).ok_or(Fault::Strength)?;
     Ok(SignalRecord {
         beacon,
         distance,

@@ -15,7 +15,7 @@ mod tests {
         match searchfile::parse(heap, line)? {
             Statement::Blank => Ok(String::new(heap)),
             Statement::Title { title } => {
-                search.begin(title)?;
+                search.begin(heap, title)?;
                 Ok(String::new(heap))
             }
             Statement::Set { role, name, cells } => {
@@ -35,10 +35,7 @@ mod tests {
 
     // The same in words, a fault's too.
     fn said(heap: Global, search: &mut Search, line: &str) -> Result<String, AllocError> {
-        match told(heap, search, line) {
-            Ok(text) => Ok(text),
-            Err(fault) => format!(in heap; "{fault}"),
-        }
+        told(heap, search, line).or_else(|fault| format!(in heap; "{fault}"))
     }
 
     #[test]

@@ -1,7 +1,8 @@
 // What a set keeps of one beacon heard once: 11 bytes of figures.
 ghost use Rattle.std.specs.Prelude.{◌≡◌, if◌then◌else◌, nat_lt};
 
-#[derive(Clone, Copy, PartialEq, Eq, Debug)]
+// A cell has the default before its first record.
+#[derive(Clone, Copy, PartialEq, Eq, Default, Debug)]
 pub struct SignalRecord {
     // the beacon's identity
     pub beacon: u32,
@@ -13,14 +14,6 @@ pub struct SignalRecord {
 }
 
 impl SignalRecord {
-    // What stands in a cell before the first record does.
-    pub const BLANK: SignalRecord = SignalRecord {
-        beacon: 0,
-        distance: 0,
-        strength: 0,
-        second: 0,
-    };
-
     // The one of the two that was heard nearer; of two alike, this one.
     pub fn nearer(self, other: SignalRecord) -> SignalRecord
         ensures { result ≡ (if nat_lt other.distance self.distance then other else self) }

@@ -1,7 +1,5 @@
-use Rattle.std.proofs.Common.{◌≡◌, ◌^◌, ◌<◌, take}
-use Rattle.std.specs.Str.Parse.{AllDigits, digits_value}
+use Rattle.signal.proofs.Figures.{Read}
 use Rattle.signal.proofs.read.digits.Given as goal
 
 abbrev pub invariant-loop-b : goal.invariant-loop-b
-invariant-loop-b l =
-    (l.n ≡ digits_value l.base (take l.b-index l.text)) × AllDigits l.base (take l.b-index l.text) × (l.n < 16 ^ l.b-index)
+invariant-loop-b l = Read l.base l.text l.b-index l.n
