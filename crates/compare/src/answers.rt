@@ -1,12 +1,11 @@
 // The comparisons: a value with the one that is due, a block enciphered, an answer deciphered.
 // Promises that what passes is equal, and what a passed answer says of the cipher's definition.
 // Rests on the ciphers (cipher).
-ghost use Rattle.std.specs.Prelude.{◌≡◌, ◌*◌, take, drop, IfOk, OnOk};
-ghost use Rattle.kit.specs.Calls.{enciphered, deciphered};
-ghost use Rattle.compare.specs.Ciphers.{meaning};
+ghost use Rattle.std.specs.Prelude.{◌≡◌, ◌*◌, take, drop, length, IfOk, OnOk};
+ghost use Rattle.compare.specs.Ciphers.{meaning, ciphered};
 
 use crate::cipher::Cipher;
-use crate::fault::{Fault, Value};
+use crate::fault::{Fault, Value, Way};
 use std::alloc::Global;
 
 // Passes where the program's value is the one that the data have.
@@ -16,67 +15,58 @@ pub fn hold(heap: Global, value: Value, found: &[u8], due: &[u8]) -> Result<(), 
     if found == due {
         return Ok(());
     }
-    let found = Vec::from_slice(heap, found)?;
+    let found = hex::encode_upper(heap, found)?;
     Err(Fault::Differs { value, found })
 }
 
-// The schedule of a key.
-pub fn make_schedule(heap: Global, cipher: Cipher, key: &[u8]) -> Result<Vec<u8>, Fault>
-    ensures { IfOk result (λ v. v.items ≡ (meaning cipher).schedule key.now) }
-{
-    let cells = cipher.need(key.len())?;
-    let mut schedule = Vec::new(heap);
-    for _ in 0..cells {
-        schedule.extend_from_slice(&[0; 16])?;
+// A cipher under a key, of which it keeps the length and the schedule.
+#[derive(Debug, Drop)]
+pub struct Keyed {
+    pub cipher: Cipher,
+    pub length: usize,
+    pub schedule: Vec<u8>,
+}
+
+impl Keyed {
+    pub fn of(heap: Global, cipher: Cipher, key: &[u8]) -> Result<Keyed, Fault>
+        ensures cipher { IfOk result (λ keyed. keyed.cipher ≡ cipher) }
+        ensures length { IfOk result (λ keyed. keyed.length ≡ length key.now) }
+        ensures schedule { IfOk result (λ keyed. keyed.schedule.items ≡ (meaning cipher).schedule key.now) }
+    {
+        let cells = cipher.need(key.len())?;
+        let mut schedule = vec![in heap; 0; 16 * cells]?;
+        cipher.expand(key, schedule.as_mut_slice())?;
+        Ok(Keyed {
+            cipher,
+            length: key.len(),
+            schedule,
+        })
     }
-    cipher.expand(key, schedule.as_mut_slice())?;
-    Ok(schedule)
-}
 
-// Compares the text enciphered with an answer.
-pub fn forth(
-    heap: Global,
-    cipher: Cipher,
-    len: usize,
-    schedule: &[u8],
-    text: &[u8],
-    due: &[u8],
-) -> Result<(), Fault>
-    ensures { OnOk result (enciphered (meaning cipher) len schedule.now text.now ≡ due.now) }
-{
-    let mut block = Vec::from_slice(heap, text)?;
-    cipher.encipher(len, schedule, block.as_mut_slice())?;
-    hold(heap, Value::Enciphered, block.as_slice(), due)
-}
-
-// Compares the answer deciphered with the text.
-pub fn back(
-    heap: Global,
-    cipher: Cipher,
-    len: usize,
-    schedule: &[u8],
-    due: &[u8],
-    text: &[u8],
-) -> Result<(), Fault>
-    ensures { OnOk result (deciphered (meaning cipher) len schedule.now due.now ≡ text.now) }
-{
-    let mut block = Vec::from_slice(heap, due)?;
-    cipher.decipher(len, schedule, block.as_mut_slice())?;
-    hold(heap, Value::Deciphered, block.as_slice(), text)
+    // Compares what the cipher makes of `given`, one way or the other, with what is due.
+    pub fn answer(&self, heap: Global, way: Way, given: &[u8], due: &[u8]) -> Result<(), Fault>
+        ensures { OnOk result (ciphered way (meaning self.now.cipher) self.now.length self.now.schedule.items given.now ≡ due.now) }
+    {
+        let mut block = Vec::from_slice(heap, given)?;
+        let schedule = self.schedule.as_slice();
+        match way {
+            Way::Forth => self
+                .cipher
+                .encipher(self.length, schedule, block.as_mut_slice())?,
+            Way::Back => self
+                .cipher
+                .decipher(self.length, schedule, block.as_mut_slice())?,
+        }
+        hold(heap, Value::Answer(way), block.as_slice(), due)
+    }
 }
 
 // Part `index` of a schedule that is cut into parts of `size` bytes.
 pub fn part(schedule: &[u8], size: usize, index: usize) -> Result<&[u8], Fault>
     ensures { IfOk result (λ key. key.now ≡ take size (drop (size * index) schedule.now)) }
 {
-    let Some(start) = size.checked_mul(index) else {
-        return Err(Fault::Form("a round of this schedule"));
-    };
-    let Some(end) = start.checked_add(size) else {
-        return Err(Fault::Form("a round of this schedule"));
-    };
-    match schedule.get(start..end) {
-        Some(key) => Ok(key),
-        None => Err(Fault::Form("a round of this schedule")),
-    }
+    size.checked_mul(index)
+        .and_then(|start| schedule.get(start..))
+        .and_then(|rest| rest.get(..size))
+        .ok_or(Fault::Form("a round of this schedule"))
 }

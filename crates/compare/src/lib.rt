@@ -5,10 +5,10 @@
 
 mod answers;
 mod cipher;
+mod digits;
 mod fault;
-mod hex;
 
-pub use answers::{back, forth, hold, make_schedule, part};
+pub use answers::{Keyed, hold, part};
 pub use cipher::Cipher;
-pub use fault::{Fault, Value};
-pub use hex::parse_hex;
+pub use digits::parse_hex;
+pub use fault::{Fault, Value, Way};

@@ -1,7 +1,9 @@
 // The rows of AES's key expansion: how each word of the schedule comes from words before it.
 // Promises nothing of its own: the words are those of the schedule, and SubWord is the SubBytes of crate aes.
 // Rests on the schedule (aes) and on products of bytes (field).
-use compare::{Fault, part};
+use crate::steps::array_part;
+use compare::{Fault, Keyed};
+use std::str::FromStr;
 
 // The columns of a row, by their names in the standard's tables.
 #[derive(Clone, Copy, PartialEq, Eq, Debug)]
@@ -21,69 +23,66 @@ pub enum Column {
     Word,
 }
 
-impl Column {
-    pub fn named(name: &str) -> Option<Column> {
+impl FromStr for Column {
+    type Err = Fault;
+
+    fn from_str(name: &str) -> Result<Column, Fault> {
         match name {
-            "temp" => Some(Column::Temp),
-            "rot" => Some(Column::Rotated),
-            "sub" => Some(Column::Substituted),
-            "rcon" => Some(Column::Rcon),
-            "xor_rcon" => Some(Column::WithRcon),
-            "back" => Some(Column::Back),
-            "w" => Some(Column::Word),
-            _ => None,
+            "temp" => Ok(Column::Temp),
+            "rot" => Ok(Column::Rotated),
+            "sub" => Ok(Column::Substituted),
+            "rcon" => Ok(Column::Rcon),
+            "xor_rcon" => Ok(Column::WithRcon),
+            "back" => Ok(Column::Back),
+            "w" => Ok(Column::Word),
+            _ => Err(Fault::Form("a column of the key expansion")),
         }
     }
 }
 
-// Word `index` of a schedule.
-fn word_at(schedule: &[u8], index: usize) -> Result<[u8; 4], Fault> {
-    match part(schedule, 4, index)? {
-        [a, b, c, d] => Ok([*a, *b, *c, *d]),
-        _ => Err(Fault::Form("a word of this schedule")),
-    }
-}
-
-fn rotated(word: [u8; 4]) -> [u8; 4] {
-    [word[1], word[2], word[3], word[0]]
+fn rotated([a, b, c, d]: [u8; 4]) -> [u8; 4] {
+    [b, c, d, a]
 }
 
 fn substituted(word: [u8; 4]) -> Result<[u8; 4], Fault> {
-    let mut block = [
-        word[0], word[1], word[2], word[3], 0, 0, 0, 0, 0, 0, 0, 0, 0, 0, 0, 0,
-    ];
+    let mut block = [0; 16];
+    block[..4].copy_from_slice(&word);
     aes::apply_step(aes::Step::SubBytes, &[0; 16], &mut block)?;
-    Ok([block[0], block[1], block[2], block[3]])
+    let [a, b, c, d, ..] = block;
+    Ok([a, b, c, d])
 }
 
 // Rcon of row `times` of those that have one: x to the power `times` - 1.
 fn rcon(times: usize) -> [u8; 4] {
-    let mut power = 1;
-    for _ in 1..times {
-        power = field::mul(0x1B, 2, power);
-    }
+    let power = (1..times).fold(1, |power, _| field::mul(0x1B, 2, power));
     [power, 0, 0, 0]
 }
 
-// A column of the row of word `row`, for a key of `nk` words.
-pub fn column_of(schedule: &[u8], nk: usize, row: u8, column: Column) -> Result<[u8; 4], Fault> {
+// A column of the row of word `row`.
+pub fn column_of(keyed: &Keyed, row: u8, column: Column) -> Result<[u8; 4], Fault> {
+    let words = keyed.length / 4;
     let row = usize::from(row);
-    if nk == 0 || row < nk {
+    if words == 0 || row < words {
         return Err(Fault::Form("a row after those of the key"));
     }
-    let temp = word_at(schedule, row - 1)?;
-    let turned = if row % nk == 0 { rotated(temp) } else { temp };
+    let schedule = keyed.schedule.as_slice();
+    let temp: [u8; 4] = *array_part(schedule, row - 1)?;
+    let turned = if row % words == 0 {
+        rotated(temp)
+    } else {
+        temp
+    };
     match column {
         Column::Temp => Ok(temp),
         Column::Rotated => Ok(turned),
         Column::Substituted => substituted(turned),
-        Column::Rcon => Ok(rcon(row / nk)),
+        Column::Rcon => Ok(rcon(row / words)),
         Column::WithRcon => {
             let mut word = substituted(turned)?;
-            block::xor_into(&mut word, &rcon(row / nk));
+            block::xor_into(&mut word, &rcon(row / words));
             Ok(word)
         }
-        Column::Back => word_at(schedule, row - nk),
-        Column::Word => word_at(schedule, row),
+        Column::Back => Ok(*array_part(schedule, row - words)?),
+        Column::Word => Ok(*array_part(schedule, row)?),
     }
 }

@@ -2,15 +2,9 @@
 // Promises nothing of its own: a line that is of no form is a fault.
 // Rests on the digits (compare).
 use crate::expansion::Column;
-use compare::{Cipher, Fault, parse_hex};
-use std::alloc::{AllocError, Global};
-
-// Which way a step is taken.
-#[derive(Clone, Copy, PartialEq, Eq, Debug)]
-pub enum Way {
-    Forth,
-    Back,
-}
+use crate::steps::Step;
+use compare::{Cipher, Fault, Way, parse_hex};
+use std::alloc::Global;
 
 // A round key of AES as it stands in the schedule, or with MixColumns undone.
 #[derive(Clone, Copy, PartialEq, Eq, Debug)]
@@ -22,19 +16,21 @@ pub enum KeyForm {
 #[derive(Drop)]
 pub enum Line<'a> {
     Blank,
-    Vector {
-        cipher: Cipher,
-        name: &'a str,
-    },
+    // the head of a vector
+    Vector { cipher: Cipher, name: &'a str },
+    Entry(Entry<'a>),
+}
+
+// What a line gives to its vector, or what it has compared.
+#[derive(Drop)]
+pub enum Entry<'a> {
     Key(Vec<u8>),
     Schedule(Vec<u8>),
     Text(Vec<u8>),
     Enciphered(Vec<u8>),
     State(Vec<u8>),
     Step {
-        way: Way,
-        name: &'a str,
-        round: u8,
+        step: Step<'a>,
         due: Vec<u8>,
     },
     RoundKey {
@@ -54,61 +50,58 @@ pub enum Line<'a> {
     },
 }
 
-fn words<'a>(heap: Global, line: &'a str) -> Result<Vec<&'a str>, AllocError> {
-    let mut all = Vec::new(heap);
-    for word in line.split_whitespace() {
-        all.push(word)?;
-    }
-    Ok(all)
-}
-
 pub fn parse<'a>(heap: Global, line: &'a str) -> Result<Line<'a>, Fault> {
-    let words = words(heap, line)?;
+    let words: Vec<&'a str> = line.split_whitespace().collect(heap)?;
     match words.as_slice() {
-        [] => Ok(Line::Blank),
-        ["#", ..] => Ok(Line::Blank),
+        [] | ["#", ..] => Ok(Line::Blank),
         ["vector", ..] => vector(line),
-        [word, value] => one_value(heap, word, value),
-        ["step", name, round, due] => step(heap, Way::Forth, name, round, due),
-        ["undo", name, round, due] => step(heap, Way::Back, name, round, due),
-        ["roundkey", round, due] => round_key(heap, KeyForm::Plain, round, due),
-        ["mixedkey", round, due] => round_key(heap, KeyForm::Mixed, round, due),
-        ["word", row, column, due] => word(heap, row, column, due),
-        ["pair", key, text, due] => pair(heap, key, text, due),
-        _ => Err(Fault::Form("a line of the format")),
+        words => Ok(Line::Entry(entry_of(heap, words)?)),
     }
 }
 
 fn vector<'a>(line: &'a str) -> Result<Line<'a>, Fault> {
-    let Some((_, rest)) = line.split_once(' ') else {
-        return Err(Fault::Form("`vector CIPHER NAME`"));
-    };
-    let Some((cipher, name)) = rest.split_once(' ') else {
-        return Err(Fault::Form("`vector CIPHER NAME`"));
-    };
-    match Cipher::named(cipher) {
-        Some(cipher) => Ok(Line::Vector { cipher, name }),
-        None => Err(Fault::Form("a cipher that the program has")),
+    let (cipher, name) = line
+        .split_once(' ')
+        .and_then(|(_, rest)| rest.split_once(' '))
+        .ok_or(Fault::Form("`vector CIPHER NAME`"))?;
+    let cipher = cipher.parse()?;
+    Ok(Line::Vector { cipher, name })
+}
+
+fn entry_of<'a>(heap: Global, words: &[&'a str]) -> Result<Entry<'a>, Fault> {
+    match words {
+        [word, value] => one_value(word, parse_hex(heap, value)?),
+        ["step", name, round, due] => step(heap, Way::Forth, name, round, due),
+        ["undo", name, round, due] => step(heap, Way::Back, name, round, due),
+        ["roundkey", round, due] => round_key(heap, KeyForm::Plain, round, due),
+        ["mixedkey", round, due] => round_key(heap, KeyForm::Mixed, round, due),
+        ["word", row, column, due] => Ok(Entry::Word {
+            row: number(row)?,
+            column: column.parse()?,
+            due: parse_hex(heap, due)?,
+        }),
+        ["pair", key, text, due] => Ok(Entry::Pair {
+            key: parse_hex(heap, key)?,
+            text: parse_hex(heap, text)?,
+            due: parse_hex(heap, due)?,
+        }),
+        _ => Err(Fault::Form("a line of the format")),
     }
 }
 
-fn one_value<'a>(heap: Global, word: &str, value: &str) -> Result<Line<'a>, Fault> {
-    let value = parse_hex(heap, value)?;
+fn one_value<'a>(word: &str, value: Vec<u8>) -> Result<Entry<'a>, Fault> {
     match word {
-        "key" => Ok(Line::Key(value)),
-        "schedule" => Ok(Line::Schedule(value)),
-        "text" => Ok(Line::Text(value)),
-        "cipher" => Ok(Line::Enciphered(value)),
-        "state" => Ok(Line::State(value)),
+        "key" => Ok(Entry::Key(value)),
+        "schedule" => Ok(Entry::Schedule(value)),
+        "text" => Ok(Entry::Text(value)),
+        "cipher" => Ok(Entry::Enciphered(value)),
+        "state" => Ok(Entry::State(value)),
         _ => Err(Fault::Form("a line of the format")),
     }
 }
 
 fn number(text: &str) -> Result<u8, Fault> {
-    match text.parse::<u8>() {
-        Ok(n) => Ok(n),
-        Err(_) => Err(Fault::Form("a number up to 255")),
-    }
+    text.parse().map_err(|_| Fault::Form("a number up to 255"))
 }
 
 fn step<'a>(
@@ -117,35 +110,18 @@ fn step<'a>(
     name: &'a str,
     round: &str,
     due: &str,
-) -> Result<Line<'a>, Fault> {
+) -> Result<Entry<'a>, Fault> {
     let round = number(round)?;
-    let due = parse_hex(heap, due)?;
-    Ok(Line::Step {
-        way,
-        name,
-        round,
-        due,
+    Ok(Entry::Step {
+        step: Step { way, name, round },
+        due: parse_hex(heap, due)?,
     })
 }
 
-fn round_key<'a>(heap: Global, form: KeyForm, round: &str, due: &str) -> Result<Line<'a>, Fault> {
-    let round = number(round)?;
-    let due = parse_hex(heap, due)?;
-    Ok(Line::RoundKey { form, round, due })
-}
-
-fn word<'a>(heap: Global, row: &str, column: &str, due: &str) -> Result<Line<'a>, Fault> {
-    let row = number(row)?;
-    let Some(column) = Column::named(column) else {
-        return Err(Fault::Form("a column of the key expansion"));
-    };
-    let due = parse_hex(heap, due)?;
-    Ok(Line::Word { row, column, due })
-}
-
-fn pair<'a>(heap: Global, key: &str, text: &str, due: &str) -> Result<Line<'a>, Fault> {
-    let key = parse_hex(heap, key)?;
-    let text = parse_hex(heap, text)?;
-    let due = parse_hex(heap, due)?;
-    Ok(Line::Pair { key, text, due })
+fn round_key<'a>(heap: Global, form: KeyForm, round: &str, due: &str) -> Result<Entry<'a>, Fault> {
+    Ok(Entry::RoundKey {
+        form,
+        round: number(round)?,
+        due: parse_hex(heap, due)?,
+    })
 }

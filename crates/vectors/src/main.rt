@@ -3,7 +3,7 @@
 // Rests on the line format (lines), the comparisons (trial) and the clock (speed).
 #![tactic(auto)]
 
-use anyhow::anyhow;
+use anyhow::bail;
 use compare::Fault;
 use lines::Line;
 use std::alloc::Global;
@@ -24,7 +24,7 @@ const FILES: [&str; 4] = [
     "aes_random.txt",
 ];
 
-#[derive(Clone, Copy)]
+#[derive(Clone, Copy, Default)]
 struct Total {
     vectors: u64,
     values: u64,
@@ -35,43 +35,29 @@ fn take_line(heap: Global, trials: &mut Vec<Trial>, line: &str) -> Result<(), Fa
     match lines::parse(heap, line)? {
         Line::Blank => Ok(()),
         Line::Vector { cipher, name } => {
-            let trial = Trial::begin(heap, cipher, name)?;
-            trials.push(trial)?;
+            trials.push(Trial::begin(heap, cipher, name)?)?;
             Ok(())
         }
-        line => match trials.last_mut() {
-            Some(trial) => trial.take(heap, line),
-            None => Err(Fault::Form("`vector CIPHER NAME` before this")),
-        },
+        Line::Entry(entry) => trials
+            .last_mut()
+            .ok_or(Fault::Form("`vector CIPHER NAME` before this"))?
+            .take(heap, entry),
     }
 }
 
-// Says where the first difference is, and gives the error that the program ends with.
-fn tell(
-    rt: &HostRuntime,
-    file: &str,
-    number: usize,
-    line: &str,
-    trials: &Vec<Trial>,
-    fault: Fault,
-) -> anyhow::Result<()> {
-    let number = number.saturating_add(1);
-    if let Some(trial) = trials.as_slice().last() {
-        println!(rt; "{trial}; then")?;
-    }
-    println!(rt; "{file}, line {number}: {fault}")?;
-    println!(rt; "the line is: {line}")?;
-    Err(anyhow!("the comparison stopped"))
-}
-
-// Runs the vectors of a file, and says of each what was compared.
+// Runs the vectors of a file, and says of each what was compared, or where the first difference is.
 fn run_file(rt: &HostRuntime, file: &str, total: &mut Total) -> anyhow::Result<()> {
     let heap = rt.alloc();
     let text = fs::read_to_string(rt, file)?;
     let mut trials = Vec::new(heap);
-    for (number, line) in text.as_str().lines().enumerate() {
+    for (line, number) in text.as_str().lines().zip(1u64..) {
         if let Err(fault) = take_line(heap, &mut trials, line) {
-            return tell(rt, file, number, line, &trials, fault);
+            if let Some(trial) = trials.last() {
+                println!(rt; "{trial}; then")?;
+            }
+            println!(rt; "{file}, line {number}: {fault}")?;
+            println!(rt; "the line is: {line}")?;
+            bail!("the comparison stopped");
         }
     }
     for trial in trials.iter() {
@@ -83,28 +69,20 @@ fn run_file(rt: &HostRuntime, file: &str, total: &mut Total) -> anyhow::Result<(
 }
 
 fn compare(rt: &HostRuntime) -> anyhow::Result<()> {
-    let mut total = Total {
-        vectors: 0,
-        values: 0,
-    };
+    let mut total = Total::default();
     for file in FILES {
         run_file(rt, file, &mut total)?;
     }
-    let vectors = total.vectors;
-    let values = total.values;
+    let Total { vectors, values } = total;
     println!(rt; "{vectors} vectors, {values} values compared, no difference")?;
     Ok(())
 }
 
 // With the argument `speed` it measures; with none it compares.
-fn run(rt: &HostRuntime) -> anyhow::Result<()> {
-    match env::args(rt)?.nth(1) {
-        Some(word) if word.as_str() == "speed" => speed::measure(rt),
-        Some(_) => Err(anyhow!("the only argument is speed")),
-        None => compare(rt),
-    }
-}
-
 fn main(rt: HostRuntime) -> anyhow::Result<()> {
-    run(&rt)
+    match env::args(&rt)?.nth(1) {
+        Some(word) if word.as_str() == "speed" => speed::measure(&rt),
+        Some(_) => bail!("the only argument is speed"),
+        None => compare(&rt),
+    }
 }

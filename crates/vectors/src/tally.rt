@@ -1,68 +1,71 @@
 // How many values of each kind were compared.
 // Promises nothing of its own.
-// Rests on nothing.
-use compare::Value;
+// Rests on the comparisons (compare).
+use compare::{Fault, Value, Way, hold};
+use std::alloc::{AllocError, Global};
+use std::collections::BTreeMap;
 use std::fmt;
 
-#[derive(Clone, Copy, Default)]
+#[derive(Drop)]
 pub struct Tally {
-    schedules: u64,
-    round_keys: u64,
-    words: u64,
-    enciphered: u64,
-    deciphered: u64,
-    forth: u64,
-    back: u64,
+    counts: BTreeMap<Value, u64>,
 }
 
 impl Tally {
-    pub fn count(&mut self, value: Value) {
-        match value {
-            Value::Schedule => self.schedules = self.schedules.saturating_add(1),
-            Value::RoundKey => self.round_keys = self.round_keys.saturating_add(1),
-            Value::Word => self.words = self.words.saturating_add(1),
-            Value::Enciphered => self.enciphered = self.enciphered.saturating_add(1),
-            Value::Deciphered => self.deciphered = self.deciphered.saturating_add(1),
-            Value::Forth => self.forth = self.forth.saturating_add(1),
-            Value::Back => self.back = self.back.saturating_add(1),
+    pub fn new(heap: Global) -> Tally {
+        Tally {
+            counts: BTreeMap::new(heap),
         }
+    }
+
+    pub fn count(&mut self, value: Value) -> Result<(), AllocError> {
+        let count = self.counts.entry(value)?.or_insert(0);
+        *count = count.saturating_add(1);
+        Ok(())
+    }
+
+    // Compares a value with the one that is due, and counts it where they are equal.
+    pub fn hold(
+        &mut self,
+        heap: Global,
+        value: Value,
+        found: &[u8],
+        due: &[u8],
+    ) -> Result<(), Fault> {
+        hold(heap, value, found, due)?;
+        self.count(value)?;
+        Ok(())
     }
 
     // All of them.
     pub fn values(&self) -> u64 {
-        let blocks = self.enciphered.saturating_add(self.deciphered);
-        let states = self.forth.saturating_add(self.back);
-        let keys = self.round_keys.saturating_add(self.words);
-        self.schedules
-            .saturating_add(keys)
-            .saturating_add(blocks)
-            .saturating_add(states)
+        self.counts
+            .values()
+            .fold(0, |all: u64, count| all.saturating_add(*count))
     }
 }
 
-// Writes one count, unless it is 0, and gives the mark that parts it from the next.
-fn part<W: fmt::Write>(
-    f: &mut fmt::Formatter<W>,
-    mark: &'static str,
-    count: u64,
-    what: &'static str,
-) -> Result<&'static str, fmt::Error> {
-    if count == 0 {
-        return Ok(mark);
+fn plural(value: Value) -> &'static str {
+    match value {
+        Value::Schedule => "schedule",
+        Value::Word => "words of the expansion",
+        Value::RoundKey => "round keys",
+        Value::State(Way::Forth) => "states forth",
+        Value::State(Way::Back) => "states back",
+        Value::Answer(Way::Forth) => "enciphered",
+        Value::Answer(Way::Back) => "deciphered",
     }
-    write!(f, "{mark}{count} {what}")?;
-    Ok(", ")
 }
 
 impl fmt::Display for Tally {
     fn fmt<W: fmt::Write>(&self, f: &mut fmt::Formatter<W>) -> fmt::Result {
-        let mark = part(f, "", self.schedules, "schedule")?;
-        let mark = part(f, mark, self.words, "words of the expansion")?;
-        let mark = part(f, mark, self.round_keys, "round keys")?;
-        let mark = part(f, mark, self.forth, "states forth")?;
-        let mark = part(f, mark, self.back, "states back")?;
-        let mark = part(f, mark, self.enciphered, "enciphered")?;
-        let _mark = part(f, mark, self.deciphered, "deciphered")?;
+        for (i, (value, count)) in self.counts.iter().enumerate() {
+            if i > 0 {
+                f.write_str(", ")?;
+            }
+            let what = plural(*value);
+            write!(f, "{count} {what}")?;
+        }
         Ok(())
     }
 }

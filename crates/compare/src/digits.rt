@@ -7,7 +7,7 @@ ghost use Rattle.compare.specs.Hex.{digit as digit_of, spelled};
 use crate::fault::Fault;
 use std::alloc::Global;
 
-// The value of a digit.
+// The value of a digit. Crate hex reads small letters too, which the data files do not have.
 fn digit(c: u8) -> Option<u8>
     ensures { MatchOption result ((d : ℕ) → d < 16 → c ≢ digit_of d) (λ d. (d < 16) × (c ≡ digit_of d)) }
 {
@@ -22,25 +22,19 @@ fn digit(c: u8) -> Option<u8>
 fn byte(high: u8, low: u8) -> Option<u8>
     ensures { IfSome result (λ b. (high ≡ digit_of (b / 16)) × (low ≡ digit_of (b % 16))) }
 {
-    match (digit(high), digit(low)) {
-        (Some(h), Some(l)) => Some(16 * h + l),
-        _ => None,
-    }
+    Some(16 * digit(high)? + digit(low)?)
 }
 
 // The bytes that a text spells.
 pub fn parse_hex(heap: Global, text: &str) -> Result<Vec<u8>, Fault>
     ensures { IfOk result (λ v. spelled v.items ≡ text.now) }
 {
-    let digits = text.as_bytes();
-    if digits.len() % 2 != 0 {
+    let (pairs, []) = text.as_bytes().as_chunks::<2>() else {
         return Err(Fault::Form("two digits for each byte"));
-    }
+    };
     let mut bytes = Vec::new(heap);
-    for i in 0..digits.len() / 2 {
-        let Some(b) = byte(digits[2 * i], digits[2 * i + 1]) else {
-            return Err(Fault::Form("hexadecimal digits in capitals"));
-        };
+    for [high, low] in pairs {
+        let b = byte(*high, *low).ok_or(Fault::Form("hexadecimal digits in capitals"))?;
         bytes.push(b)?;
     }
     Ok(bytes)
