@@ -29,26 +29,33 @@ mod tests {
     ];
 
     fn wrong(length: usize) -> Refusal {
-        Refusal::Key(KeyFault { depth: 0, length })
+        Refusal::from(KeyFault::here(length))
+    }
+
+    // The cells that each length needs.
+    fn takes<K: Kit>(rt: &impl Abort, kit: &K, cells: [(usize, usize); 3]) {
+        for (length, cells) in cells {
+            assert_eq!(rt; kit.need(length), Ok(cells));
+        }
+    }
+
+    fn refuses<K: Kit>(rt: &impl Abort, kit: &K, length: usize) {
+        assert_eq!(rt; kit.need(length), Err(wrong(length)));
     }
 
     #[test]
     fn needs(rt: HostRuntime) {
-        assert_eq!(rt; Mkv128.need(16), Ok(13));
-        assert_eq!(rt; Mkv128.need(24), Ok(15));
-        assert_eq!(rt; Mkv128.need(32), Ok(17));
-        assert_eq!(rt; Mkv256.need(32), Ok(26));
-        assert_eq!(rt; Mkv256.need(48), Ok(30));
-        assert_eq!(rt; Mkv256.need(64), Ok(34));
-        assert_eq!(rt; Mkv128.need(64), Err(wrong(64)));
-        assert_eq!(rt; Mkv256.need(16), Err(wrong(16)));
+        takes(&rt, &Mkv128, [(16, 13), (24, 15), (32, 17)]);
+        takes(&rt, &Mkv256, [(32, 26), (48, 30), (64, 34)]);
+        refuses(&rt, &Mkv128, 64);
+        refuses(&rt, &Mkv256, 16);
     }
 
     #[test]
     fn other_lengths_are_refused(rt: HostRuntime) {
         for length in NEVER {
-            assert_eq!(rt; Mkv128.need(length), Err(wrong(length)));
-            assert_eq!(rt; Mkv256.need(length), Err(wrong(length)));
+            refuses(&rt, &Mkv128, length);
+            refuses(&rt, &Mkv256, length);
         }
     }
 
@@ -75,36 +82,19 @@ mod tests {
     // A schedule or a block one byte off, and nothing is written.
     #[test]
     fn sizes(rt: HostRuntime) {
+        let wrong = Err(Refusal::Block);
         let mut block = TEXT;
-        assert_eq!(rt;
-            Mkv128.encipher(16, &[1; 207], &mut block),
-            Err(Refusal::Block)
-        );
-        assert_eq!(rt;
-            Mkv128.encipher(16, &[1; 209], &mut block),
-            Err(Refusal::Block)
-        );
-        assert_eq!(rt;
-            Mkv128.decipher(32, &[1; 208], &mut block),
-            Err(Refusal::Block)
-        );
+        assert_eq!(rt; Mkv128.encipher(16, &[1; 207], &mut block), wrong);
+        assert_eq!(rt; Mkv128.encipher(16, &[1; 209], &mut block), wrong);
+        assert_eq!(rt; Mkv128.decipher(32, &[1; 208], &mut block), wrong);
         assert!(rt; block == TEXT);
         let mut long = [0x5A; 17];
-        assert_eq!(rt;
-            Mkv128.encipher(16, &[1; 208], &mut long),
-            Err(Refusal::Block)
-        );
-        assert_eq!(rt;
-            Mkv128.decipher(16, &[1; 208], &mut long),
-            Err(Refusal::Block)
-        );
-        assert_eq!(rt;
-            Mkv256.encipher(32, &[1; 416], &mut long),
-            Err(Refusal::Block)
-        );
+        assert_eq!(rt; Mkv128.encipher(16, &[1; 208], &mut long), wrong);
+        assert_eq!(rt; Mkv128.decipher(16, &[1; 208], &mut long), wrong);
+        assert_eq!(rt; Mkv256.encipher(32, &[1; 416], &mut long), wrong);
         assert!(rt; long == [0x5A; 17]);
         let mut out = [0x5A; 209];
-        assert_eq!(rt; Mkv128.expand(&KEY, &mut out), Err(Refusal::Block));
+        assert_eq!(rt; Mkv128.expand(&KEY, &mut out), wrong);
         assert!(rt; out == [0x5A; 209]);
     }
 
