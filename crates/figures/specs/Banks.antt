@@ -1,9 +1,7 @@
--- The worked figures of a bank of 41 cells and of its links. Assumes nothing.
--- A row says what a definition that contracts cite gives at some values.
-use Rattle.std.specs.Prelude.{◌≡◌, ℕ, ◌-◌, List, [], ◌∷◌, length, replicate, Some, None, Ok, Option}
+-- A bank of 41 cells and its links, of which the worked figures speak. Assumes nothing.
+use Rattle.std.specs.Prelude.{ℕ, ◌-◌, List, [], ◌∷◌, length, replicate, Some, Ok, Option}
 use Rattle.mkv.specs.Versions.{mkv_128}
 use Rattle.refusal.specs.declared.Refusal.{Refusal}
-use Rattle.refusal.specs.declared.Refusal.TheVariants.{Cells, Ragged}
 use Rattle.refusal.specs.Checks.{first}
 use Rattle.bank.specs.Books.{Running}
 use Rattle.bank.specs.Calls.{Ask, open_checks, fresh, fed_link, given_link, last_bytes, end_tail}
@@ -47,25 +45,3 @@ end_gives l = length (last_bytes mkv_128 l)
 
 abbrev pub end_answer : Running → Option Refusal
 end_answer l = first (end_tail mkv_128 (record { scratch = 1536; memory = 41; out = 32 }) (Some l))
-
-abbrev pub bank_figures : List (Type 0)
-bank_figures =
-    -- a bank of 41 cells: 13, 15 and 13 leave none; 26 are free after the two strikes, 15 of them are given and leave 11, and
-    -- 13 are refused
-    (left three_open ≡ 0) ∷
-    (left two_struck ≡ 26) ∷
-    (answer two_struck (ask 0 24) ≡ None) ∷
-    (left one_more ≡ 11) ∷
-    (answer one_more (ask 0 16) ≡ Some Cells) ∷
-    -- sending CBC, 5 and then 27 bytes: none, then 32; the end gives 16
-    (gives (linked 0 0) 5 ≡ 0) ∷
-    (gives (linked 0 5) 27 ≡ 32) ∷
-    (end_gives (linked 0 32) ≡ 16) ∷
-    -- receiving CBC: 16 give none, 17 give 16, 48 give 32 and 16 are held
-    (gives (linked 1 0) 16 ≡ 0) ∷
-    (gives (linked 1 0) 17 ≡ 16) ∷
-    (gives (linked 1 0) 48 ≡ 32) ∷
-    (length (linked 1 48).state.held ≡ 16) ∷
-    -- after 20, or after none, its end is refused
-    (end_answer (linked 1 20) ≡ Some Ragged) ∷
-    (end_answer (linked 1 0) ≡ Some Ragged) ∷ []

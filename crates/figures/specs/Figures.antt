@@ -1,6 +1,6 @@
 -- The worked figures: one table, and that every row of it holds. Bytes are hexadecimal, lengths and counts decimal. Assumes nothing.
 -- A row says what a definition that contracts cite gives at some values.
-use Rattle.std.specs.Prelude.{◌≡◌, ℕ, List, [], ◌∷◌, take, drop, Ok, Err, Result, slice_index}
+use Rattle.std.specs.Prelude.{◌≡◌, ℕ, List, [], ◌∷◌, length, take, drop, Some, None, Ok, Err, Result, slice_index}
 use Rattle.field.specs.Byte.{mul}
 use Rattle.field.specs.Known.{mkv_poly, aes_poly, m4}
 use Rattle.field.specs.Matrix.{apply}
@@ -13,6 +13,8 @@ use Rattle.layers.specs.Whitened.{whitened}
 use Rattle.layers.specs.Cascaded.{cascaded}
 use Rattle.kit.specs.Meaning.{Meaning}
 use Rattle.refusal.specs.declared.KeyFault.{KeyFault}
+use Rattle.refusal.specs.declared.Refusal.TheVariants.{Cells, Ragged}
+use Rattle.figures.specs.Banks.{ask, three_open, two_struck, one_more, left, answer, linked, gives, end_gives, end_answer}
 
 -- the key, the text and the ciphertext of the worked cipher
 abbrev pub key : List ℕ
@@ -83,7 +85,26 @@ figures =
     (white.need 31 ≡ refused 0 31) ∷
     -- the cascade: 32 key bytes need 24 cells; 20 are refused
     (two.need 32 ≡ Ok 24) ∷
-    (two.need 20 ≡ refused 1 4) ∷ []
+    (two.need 20 ≡ refused 1 4) ∷
+    -- a bank of 41 cells: 13, 15 and 13 leave none; 26 are free after the two strikes, 15 of them are given and leave 11, and
+    -- 13 are refused
+    (left three_open ≡ 0) ∷
+    (left two_struck ≡ 26) ∷
+    (answer two_struck (ask 0 24) ≡ None) ∷
+    (left one_more ≡ 11) ∷
+    (answer one_more (ask 0 16) ≡ Some Cells) ∷
+    -- sending CBC, 5 and then 27 bytes: none, then 32; the end gives 16
+    (gives (linked 0 0) 5 ≡ 0) ∷
+    (gives (linked 0 5) 27 ≡ 32) ∷
+    (end_gives (linked 0 32) ≡ 16) ∷
+    -- receiving CBC: 16 give none, 17 give 16, 48 give 32 and 16 are held
+    (gives (linked 1 0) 16 ≡ 0) ∷
+    (gives (linked 1 0) 17 ≡ 16) ∷
+    (gives (linked 1 0) 48 ≡ 32) ∷
+    (length (linked 1 48).state.held ≡ 16) ∷
+    -- after 20, or after none, its end is refused
+    (end_answer (linked 1 20) ≡ Some Ragged) ∷
+    (end_answer (linked 1 0) ≡ Some Ragged) ∷ []
 
 -- every row holds
 abbrev pub All : List (Type 0) → Type 0

@@ -1,12 +1,13 @@
 -- A layer's answer to a key length that is accepted. Assumes nothing.
-use Rattle.std.proofs.Common.{◌≡◌, ℕ, ◌+◌, ◌*◌, ◌<◌, ◌≤◌, Bool, true, false, cond, not, ◌||◌, eqb, ltb, ◌⊎◌, [], ◌∷◌, None, Ok, Err, Result, sym, refl, ap, ◌∙◌, inl, inr, arith}
+use Rattle.std.proofs.Common.{◌≡◌, ℕ, ◌+◌, ◌*◌, ◌<◌, ◌≤◌, Bool, true, false, cond, not, ◌||◌, eqb, ltb, ◌⊎◌, [], ◌∷◌, Some, None, Ok, Err, Option, Result, sym, refl, ap, ◌∙◌, inl, inr, arith}
 use Rattle.std.proofs.lemmas.Bool.{ltb-false, or_parts, le-ltb, lt-ltb, or_from, or_left, or_right, eqb-true}
 use Rattle.refusal.specs.declared.KeyFault.{KeyFault}
 use Rattle.refusal.specs.declared.Refusal.{Refusal}
 use Rattle.refusal.specs.declared.Refusal.TheVariants.{Block as WrongSize}
 use Rattle.refusal.specs.Checks.{first}
 use Rattle.kit.specs.Calls.{told, expand_checks}
-use Rattle.layers.specs.Depth.{here, risen, bounded, both}
+use Rattle.refusal.specs.Faults.{here}
+use Rattle.layers.specs.Depth.{risen, bounded, both}
 
 pub ok_is : {m n : ℕ} → ◌≡◌ {A = Result ℕ KeyFault} (Ok m) (Ok n) → m ≡ n
 ok_is e = cc
@@ -84,6 +85,13 @@ size_due : (p : Bool) → first ((not p, WrongSize) ∷ []) ≡ None → p ≡ t
 size_due true e = refl
 size_due false e = let z : ◌≡◌ {A = ℕ} 0 1 = cc in absurd (omega arith)
 
+pub cells_due : (n out : ℕ) → None ≡ first (expand_checks (Ok n) out) → out ≡ 16 * n
+cells_due n out e = eqb-true out (16 * n) (size_due (eqb out (16 * n)) (sym e))
+
 pub expand_due : (need : Result ℕ KeyFault) (out : ℕ) → first (expand_checks need out) ≡ None → (n : ℕ) × ((need ≡ Ok n) × (out ≡ 16 * n))
 expand_due (Err fault) out e = let z : ◌≡◌ {A = ℕ} 0 1 = cc in absurd (omega arith)
-expand_due (Ok n) out e = (n, (refl, eqb-true out (16 * n) (size_due (eqb out (16 * n)) e)))
+expand_due (Ok n) out e = (n, (refl, cells_due n out (sym e)))
+
+-- a call that is refused, where nothing is due
+pub none_due : {reason : Refusal} {r : Option Refusal} → Some reason ≡ r → r ≡ None → ⊥
+none_due e f = let d = e ∙ f in let z : ◌≡◌ {A = ℕ} 0 1 = cc in omega arith

@@ -3,7 +3,8 @@ use Rattle.std.specs.Prelude.{◌≡◌, ℕ, ◌+◌, ◌-◌, ◌*◌, ◌<◌
 use Rattle.refusal.specs.declared.KeyFault.{KeyFault}
 use Rattle.block.specs.Bytes.{Bytes}
 use Rattle.kit.specs.Meaning.{Meaning}
-use Rattle.layers.specs.Depth.{here, deeper, risen, both}
+use Rattle.refusal.specs.Faults.{here}
+use Rattle.layers.specs.Depth.{deeper, risen, both}
 
 -- the cells of both; the first is always asked for p, whatever the key's length is
 unfoldable pub need : ℕ → Meaning → Meaning → ℕ → Result ℕ KeyFault

@@ -1,7 +1,6 @@
 -- The cascade of two sound kits is sound, and means what its law says. Assumes nothing.
 use Rattle.std.proofs.Common.{◌≡◌, ℕ, ◌+◌, ◌-◌, ◌*◌, ◌<◌, ◌≤◌, ◌⊎◌, List, ◌++◌, length, take, drop, None, Ok, Err, Result, sym, refl, ap, ◌∙◌, subst, ap₂, inl, inr, arith}
-use borrow.Rule.Slice.PartMut.{put_mid, post_of}
-use Rattle.std.proofs.lemmas.List.{length-append, length-take-le, length-drop, take_at, drop_at, take_rest}
+use Rattle.std.proofs.lemmas.List.{length-append, length-take-le, length-drop, take_at, drop_at}
 use Rattle.std.proofs.lemmas.Bool.{lt-ltb, le-ltb}
 use Rattle.refusal.specs.declared.KeyFault.{KeyFault}
 use Rattle.refusal.specs.declared.Refusal.{Refusal}
@@ -10,9 +9,10 @@ use Rattle.block.proofs.Parts.{bytes_append, bytes_take, bytes_drop}
 use Rattle.kit.specs.Meaning.{Meaning, Sized, Sound}
 use Rattle.kit.specs.Calls.{told, unless, expand_refusal, cipher_refusal, expanded}
 use Rattle.kit.proofs.Calls.{cipher_passes, expand_passes, expanded_fits, told_ok}
-use Rattle.layers.specs.Depth.{here, risen, both}
+use Rattle.refusal.specs.Faults.{here}
+use Rattle.layers.specs.Depth.{risen, both}
 use Rattle.layers.specs.Cascaded.{bytes_of, need, schedule, enc, dec, cascaded, Cascades}
-use Rattle.layers.specs.JoinedLemmas.{same₃, two_parts}
+use Rattle.layers.specs.JoinedLemmas.{same₃}
 use Rattle.layers.specs.AnswersLemmas.{risen_ok, both_ok, split_ok, bounded_within, bounded_above}
 
 -- a key of a cascade that is accepted
@@ -126,58 +126,33 @@ module _ (m : Meaning) (f : ℕ → List ℕ → List ℕ → List ℕ) (len : �
   pub leaves : (z : List ℕ) → z ≡ unless (cipher_refusal m l t y) (f l t y) y → z ≡ f len s x
   leaves z ez = ez ∙ ap (λ r. unless r (f l t y) y) passes ∙ same₃ f el et ey
 
--- ---- a key expanded in place, part by part
+-- ---- a key expanded in place: its part j into x, its part k into y
 
-module _ (p : ℕ) (m n : Meaning) (sm : Sound m) (key out : List ℕ) (hk : Bytes key) (cells : ℕ) (a : Accepted p m n (length key) cells)
-    (size : length out ≡ 16 * cells) (end : ℕ) (ee : end ≡ bytes_of (m.need p)) where
-  pub end_is : end ≡ 16 * a.ours
+module _ (p : ℕ) (m n : Meaning) (key out : List ℕ) (cells : ℕ) (a : Accepted p m n (length key) cells) (size : length out ≡ 16 * cells)
+    (end : ℕ) (ee : end ≡ bytes_of (m.need p)) (j k x y : List ℕ) (ej : j ≡ take p key) (ek : k ≡ drop p key) (lx : length x ≡ end) (ly : length y + end ≡ length out) where
+  end_is : end ≡ 16 * a.ours
   end_is = ee ∙ bytes_are (m.need p) a.ours a.first
 
-  key_first : take (p - 0) key ≡ take p key
-  key_first = let e : p - 0 ≡ p = omega arith in ap (λ k. take k key) e
+  need_first : m.need (length j) ≡ Ok a.ours
+  need_first = ap (λ l. m.need (length l)) ej ∙ ap m.need (length-take-le p key a.long) ∙ a.first
 
-  need_first : m.need (length (take p key)) ≡ Ok a.ours
-  need_first = ap m.need (length-take-le p key a.long) ∙ a.first
+  need_second : n.need (length k) ≡ Ok a.others
+  need_second = ap (λ l. n.need (length l)) ek ∙ ap n.need (length-drop p key) ∙ a.second
 
-  room_first : length (take (end - 0) out) ≡ 16 * a.ours
-  room_first = let e = end_is in length-take-le (end - 0) out (omega (arith, a.sum)) ∙ omega arith
+  room_second : length y ≡ 16 * a.others
+  room_second = let e = end_is in omega (arith, a.sum)
 
-  pub first_accepted : expand_refusal m (take (p - 0) key) (take (end - 0) out) ≡ None
-  first_accepted = ap (λ k. expand_refusal m k (take (end - 0) out)) key_first ∙ expand_passes (m.need (length (take p key))) _ a.ours need_first room_first
+  pub first_accepted : expand_refusal m j x ≡ None
+  first_accepted = expand_passes (m.need (length j)) (length x) a.ours need_first (lx ∙ end_is)
 
-  pub first_written : expanded m (take (p - 0) key) (take (end - 0) out) ≡ m.schedule (take p key)
-  first_written = ap (λ k. expanded m k (take (end - 0) out)) key_first ∙ expanded_fits m (take p key) (take (end - 0) out) a.ours need_first room_first
+  pub second_accepted : expand_refusal n k y ≡ None
+  second_accepted = expand_passes (n.need (length k)) (length y) a.others need_second room_second
 
-  length_first : length (m.schedule (take p key)) ≡ end
-  length_first = (sm.scheduled a.ours (take p key) need_first (bytes_take p key hk)).size ∙ sym end_is
-
-  -- after the first's part u is written
-  module _ (u : List ℕ) (eu : u ≡ m.schedule (take p key)) where
-    need_second : n.need (length (drop p key)) ≡ Ok a.others
-    need_second = ap n.need (length-drop p key) ∙ a.second
-
-    room_second : length (take (length (u ++ post_of 0 (end - 0) out) - end) (drop end (u ++ post_of 0 (end - 0) out))) ≡ 16 * a.others
-    room_second =
-        let post = post_of 0 (end - 0) out in
-        let e = end_is in
-        let lu : length u ≡ end = ap length eu ∙ length_first in
-        let lp : length post ≡ length out - (end - 0) = length-drop (end - 0) out in
-        ap length (take_rest (u ++ post) end) ∙ length-drop end (u ++ post) ∙ omega (arith, length-append u post, a.sum)
-
-    pub second_accepted : expand_refusal n (take (length key - p) (drop p key)) (take (length (u ++ post_of 0 (end - 0) out) - end) (drop end (u ++ post_of 0 (end - 0) out))) ≡ None
-    second_accepted =
-        ap (λ k. expand_refusal n k (take (length (u ++ post_of 0 (end - 0) out) - end) (drop end (u ++ post_of 0 (end - 0) out)))) (take_rest key p)
-        ∙ expand_passes (n.need (length (drop p key))) _ a.others need_second room_second
-
-    pub second_written : expanded n (take (length key - p) (drop p key)) (take (length (u ++ post_of 0 (end - 0) out) - end) (drop end (u ++ post_of 0 (end - 0) out))) ≡ n.schedule (drop p key)
-    second_written =
-        ap (λ k. expanded n k (take (length (u ++ post_of 0 (end - 0) out) - end) (drop end (u ++ post_of 0 (end - 0) out)))) (take_rest key p)
-        ∙ expanded_fits n (drop p key) (take (length (u ++ post_of 0 (end - 0) out) - end) (drop end (u ++ post_of 0 (end - 0) out))) a.others need_second room_second
-
-    pub written : (v : List ℕ) → v ≡ n.schedule (drop p key)
-        → put_mid end (length (u ++ post_of 0 (end - 0) out) - end) (u ++ post_of 0 (end - 0) out) v ≡ schedule p m n key
-    unfolding schedule
-    written v ev = two_parts end out u v (ap length eu ∙ length_first) ∙ ap₂ ◌++◌ eu ev
+  pub written : (u v : List ℕ) → u ≡ expanded m j x → v ≡ expanded n k y → u ++ v ≡ schedule p m n key
+  unfolding schedule
+  written u v eu ev =
+      ap₂ ◌++◌ (eu ∙ expanded_fits m j x a.ours need_first (lx ∙ end_is) ∙ ap m.schedule ej)
+      (ev ∙ expanded_fits n k y a.others need_second room_second ∙ ap n.schedule ek)
 
 block_schedule : (p : ℕ) (m n : Meaning) → Sound m → Sound n → (cells : ℕ) (key : List ℕ) → need p m n (length key) ≡ Ok cells → Bytes key → Block (16 * cells) (schedule p m n key)
 unfolding schedule

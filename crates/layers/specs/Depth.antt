@@ -3,13 +3,10 @@
 use Rattle.std.specs.Prelude.{ℕ, ◌+◌, min, cond, ◌||◌, Ok, Err, Option, Result, nat_lt}
 use Rattle.refusal.specs.declared.KeyFault.{KeyFault}
 use Rattle.refusal.specs.declared.Refusal.{Refusal}
+use Rattle.refusal.specs.Faults.{here}
 use Rattle.refusal.specs.Checks.{first}
 use Rattle.kit.specs.Meaning.{Meaning}
 use Rattle.kit.specs.Calls.{expand_checks, cipher_checks}
-
--- refused by this layer, which names the length that it was shown
-abbrev pub here : ℕ → KeyFault
-here len = record { depth = 0; length = len }
 
 -- a fault from below, one deeper; a depth of 255 grows no further
 abbrev pub deeper : KeyFault → KeyFault

@@ -3,7 +3,8 @@ use Rattle.std.specs.Prelude.{◌≡◌, ℕ, ◌+◌, ◌-◌, ◌*◌, ◌/◌
 use Rattle.refusal.specs.declared.KeyFault.{KeyFault}
 use Rattle.block.specs.Bytes.{xor}
 use Rattle.kit.specs.Meaning.{Meaning}
-use Rattle.layers.specs.Depth.{here, deeper, risen, both}
+use Rattle.refusal.specs.Faults.{here}
+use Rattle.layers.specs.Depth.{deeper, risen, both}
 
 -- the bytes of a and b together, and the cells that they fill
 abbrev pub white : Meaning → ℕ

@@ -1,7 +1,6 @@
 -- Whitening over a sound kit is sound, and means what its law says. Assumes nothing.
 use Rattle.std.proofs.Common.{◌≡◌, ℕ, ◌+◌, ◌-◌, ◌*◌, ◌<◌, ◌≤◌, ◌⊎◌, List, ◌++◌, length, take, drop, None, Ok, Err, Result, sym, refl, ap, ◌∙◌, ap₂, inl, inr, arith}
-use borrow.Rule.Slice.PartMut.{put_mid, post_of}
-use Rattle.std.proofs.lemmas.List.{length-append, length-take-le, length-drop, take_at, drop_at, take_rest}
+use Rattle.std.proofs.lemmas.List.{length-append, length-take-le, length-drop, take_at, drop_at}
 use Rattle.std.proofs.lemmas.Bool.{lt-ltb, le-ltb}
 use Rattle.refusal.specs.declared.KeyFault.{KeyFault}
 use Rattle.block.specs.Bytes.{Bytes, Block, xor}
@@ -11,9 +10,10 @@ use Rattle.refusal.specs.declared.Refusal.{Refusal}
 use Rattle.kit.specs.Meaning.{Meaning, Sized, Sound}
 use Rattle.kit.specs.Calls.{told, unless, expand_refusal, cipher_refusal, expanded}
 use Rattle.kit.proofs.Calls.{cipher_passes, expand_passes, expanded_fits, told_ok}
-use Rattle.layers.specs.Depth.{here, risen, both}
+use Rattle.refusal.specs.Faults.{here}
+use Rattle.layers.specs.Depth.{risen, both}
 use Rattle.layers.specs.Whitened.{white, white_cells, inner, block_a, block_b, need, schedule, enc, dec, whitened, Whitens}
-use Rattle.layers.specs.JoinedLemmas.{same₃, two_parts}
+use Rattle.layers.specs.JoinedLemmas.{same₃}
 use Rattle.layers.specs.AnswersLemmas.{risen_ok, both_ok, split_ok, bounded_within, bounded_above, ok_is}
 
 -- a whitened key that is accepted
@@ -171,47 +171,19 @@ block_schedule m sound n key e hk =
       bytes = bytes_append (m.schedule k) r hs.bytes (bytes_drop (length key - white m) key hk);
     }
 
--- ---- a key expanded in place: what goes below, and what is copied
+-- ---- a key expanded in place: `rest` goes below, its schedule into `place`, and the end of the key is copied
 
-module _ (m : Meaning) (sound : Sound m) (key out : List ℕ) (hk : Bytes key) (n : ℕ) (a : Accepted m (length key) n) (size : length out ≡ 16 * n) (w : ℕ) (ew : w ≡ m.width) where
-  pub inner_key : take (length key - 2 * w - 0) key ≡ inner m.width key
+module _ (m : Meaning) (key : List ℕ) (n : ℕ) (a : Accepted m (length key) n) (rest place : List ℕ) (er : rest ≡ inner m.width key) (lp : length place ≡ 16 * a.cells) where
+  need_inner : m.need (length rest) ≡ Ok a.cells
   unfolding inner
-  inner_key =
-      let e : length key - 2 * w - 0 ≡ length key - 2 * m.width = omega arith in
-      ap (λ v. take v key) e
+  need_inner = ap (λ k. m.need (length k)) er ∙ ap m.need (length-take-le (length key - white m) key (omega arith)) ∙ a.below
 
-  pub need_inner : m.need (length (inner m.width key)) ≡ Ok a.cells
-  unfolding inner
-  need_inner = ap m.need (length-take-le (length key - white m) key (omega arith)) ∙ a.below
+  pub expand_accepted : expand_refusal m rest place ≡ None
+  expand_accepted = expand_passes (m.need (length rest)) (length place) a.cells need_inner lp
 
-  pub inner_room : length (take (length out - 2 * w - 0) out) ≡ 16 * a.cells
-  inner_room =
-      let e = room m sound (length key) n a in
-      length-take-le (length out - 2 * w - 0) out (omega arith) ∙ omega arith
-
-  pub expand_accepted : expand_refusal m (take (length key - 2 * w - 0) key) (take (length out - 2 * w - 0) out) ≡ None
-  expand_accepted =
-      ap (λ k. expand_refusal m k (take (length out - 2 * w - 0) out)) inner_key
-      ∙ expand_passes (m.need (length (inner m.width key))) _ a.cells need_inner inner_room
-
-  pub expanded_inner : expanded m (take (length key - 2 * w - 0) key) (take (length out - 2 * w - 0) out) ≡ m.schedule (inner m.width key)
-  expanded_inner =
-      ap (λ k. expanded m k (take (length out - 2 * w - 0) out)) inner_key
-      ∙ expanded_fits m (inner m.width key) (take (length out - 2 * w - 0) out) a.cells need_inner inner_room
-
-  pub length_inner : length (m.schedule (inner m.width key)) ≡ length out - 2 * w
-  unfolding inner
-  length_inner =
-      let e = room m sound (length key) n a in
-      (sound.scheduled a.cells (inner m.width key) need_inner (bytes_take (length key - 2 * m.width) key hk)).size ∙ omega arith
-
-  pub written : (u v : List ℕ) → u ≡ m.schedule (inner m.width key) → v ≡ take (length key - (length key - 2 * w)) (drop (length key - 2 * w) key)
-      → put_mid (length out - 2 * w) (length (u ++ post_of 0 (length out - 2 * w - 0) out) - (length out - 2 * w)) (u ++ post_of 0 (length out - 2 * w - 0) out) v
-      ≡ schedule m key
+  pub written : (u v : List ℕ) → u ≡ expanded m rest place → v ≡ drop (length key - white m) key → u ++ v ≡ schedule m key
   unfolding schedule
-  written u v eu ev =
-      two_parts (length out - 2 * w) out u v (ap length eu ∙ length_inner)
-      ∙ ap₂ ◌++◌ eu (ev ∙ take_rest key (length key - 2 * w) ∙ ap (λ z. drop (length key - 2 * z) key) ew)
+  written u v eu ev = ap₂ ◌++◌ (eu ∙ expanded_fits m rest place a.cells need_inner lp ∙ ap m.schedule er) ev
 
 pub sound_whitened : (m : Meaning) → Sound m → Sound (whitened m)
 sound_whitened m sound = record {

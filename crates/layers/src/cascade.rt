@@ -8,9 +8,9 @@ ghost use Rattle.layers.specs.Cascaded.{bytes_of, cascaded, Parted, Cascades};
 ghost use Rattle.layers.specs.CascadesLemmas.{sound_cascaded};
 ghost use Rattle.std.proofs.Common.{rules, sym, ◌∙◌};
 
-use crate::{bounded, refused_here, risen, width_of};
+use crate::{bounded, fitting, risen, width_of};
 use kit::Kit;
-use refusal::Refusal;
+use refusal::{KeyFault, Refusal};
 
 // Two kits; the first `split` bytes of a key go to the first, the rest to the second.
 #[derive(Clone, Copy)]
@@ -47,10 +47,7 @@ impl<A: Kit, B: Kit<Width = A::Width>> Cascade<A, B> {
         ensures end { IfOk result (λ end. end ≡ bytes_of ((A.Kit.meaning self.now.first).need self.now.split)) }
         ensures within { IfOk result (λ end. (end ≤ size) × (self.now.split ≤ len)) }
     {
-        let cells = self.need(len)?;
-        if size != 16 * cells {
-            return Err(Refusal::Block);
-        }
+        fitting(self.need(len)?, size)?;
         let ours = self.first.need(self.split)?;
         Ok(16 * ours)
     }
@@ -83,19 +80,18 @@ impl<A: Kit, B: Kit<Width = A::Width>> Kit for Cascade<A, B> {
     ghost sound = { λ k. sound_cascaded k.split (A.Kit.meaning k.first) (B.Kit.meaning k.second) (A.Kit.sound k.first) (B.Kit.sound k.second) (B.Kit.width k.second ∙ sym (A.Kit.width k.first)) };
 
     fn need(&self, len: usize) -> Result<usize, Refusal> {
-        if len < self.split {
-            return Err(refused_here(len));
-        }
+        let rest = len.checked_sub(self.split).ok_or(KeyFault::here(len))?;
         let ours = risen(self.first.need(self.split))?;
-        let others = risen(self.second.need(len - self.split))?;
+        let others = risen(self.second.need(rest))?;
         bounded(len, ours + others)
     }
 
     fn expand(&self, key: &[u8], schedule: &mut [u8]) -> Result<(), Refusal> {
         let end = self.end_of_first(key.len(), schedule.len())?;
-        self.first
-            .expand(&key[0..self.split], &mut schedule[0..end])?;
-        self.second.expand(&key[self.split..], &mut schedule[end..])
+        let (ours, others) = key.split_at(self.split);
+        let (first, second) = schedule.split_at_mut(end);
+        self.first.expand(ours, first)?;
+        self.second.expand(others, second)
     }
 
     fn encipher(&self, len: usize, schedule: &[u8], block: &mut [u8]) -> Result<(), Refusal> {

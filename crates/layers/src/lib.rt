@@ -3,11 +3,11 @@
 // Rests on the interface of crate kit, and on the XOR of crate block.
 #![tactic(auto)]
 
-ghost use Rattle.std.specs.Prelude.{◌≡◌, ℕ, ◌≤◌, Err, Result};
+ghost use Rattle.std.specs.Prelude.{◌≡◌, ℕ, ◌≤◌, Ok, Result};
 ghost use Rattle.refusal.specs.declared.KeyFault.{KeyFault};
-ghost use Rattle.refusal.specs.declared.Refusal.TheVariants.{Key};
-ghost use Rattle.kit.specs.Calls.{told};
-ghost use Rattle.layers.specs.Depth.{here, risen as one_deeper, bounded as in_bounds};
+ghost use Rattle.refusal.specs.Checks.{first, refusal};
+ghost use Rattle.kit.specs.Calls.{told, expand_checks};
+ghost use Rattle.layers.specs.Depth.{risen as one_deeper, bounded as in_bounds};
 
 mod cascade;
 mod whitening;
@@ -22,7 +22,7 @@ const MAX_CELLS: usize = 96;
 
 const MAX_KEY: usize = 256;
 
-// The bytes of a block.
+// The bytes of a block: what the type says of the width, said of the kit's meaning.
 fn width_of<K: Kit>(kit: &K) -> usize
     ensures is { result ≡ (K.Kit.meaning kit.now).width }
     ensures small { result ≤ 32 }
@@ -30,27 +30,17 @@ fn width_of<K: Kit>(kit: &K) -> usize
     K::Width::width()
 }
 
-// What a layer tells of a key length that it refuses itself.
-fn refused_here(len: usize) -> Refusal
-    ensures { result ≡ Key (here len) }
-{
-    Refusal::Key(KeyFault {
-        depth: 0,
-        length: len,
-    })
-}
-
 // An answer from below, as a layer passes it on: a refusal stands one deeper, and a depth of 255 grows no further.
 fn risen(answer: Result<usize, Refusal>) -> Result<usize, Refusal>
     ensures { (below : Result ℕ KeyFault) → answer ≡ told below → result ≡ told (one_deeper below) }
 {
-    match answer {
-        Err(Refusal::Key(fault)) => Err(Refusal::Key(KeyFault {
+    answer.map_err(|reason| match reason {
+        Refusal::Key(fault) => Refusal::Key(KeyFault {
             depth: fault.depth.saturating_add(1),
             length: fault.length,
-        })),
+        }),
         other => other,
-    }
+    })
 }
 
 // The cells of a key of `len` bytes, if a layer may have so many cells and bytes.
@@ -58,9 +48,19 @@ fn bounded(len: usize, cells: usize) -> Result<usize, Refusal>
     ensures { result ≡ told (in_bounds len cells) }
 {
     if cells > MAX_CELLS || len > MAX_KEY {
-        return Err(refused_here(len));
+        return Err(KeyFault::here(len).into());
     }
     Ok(cells)
+}
+
+// Whether a schedule of `size` bytes has the cells of a key.
+fn fitting(cells: usize, size: usize) -> Result<(), Refusal>
+    ensures { refusal result ≡ first (expand_checks (Ok cells) size) }
+{
+    if cells.checked_mul(16) != Some(size) {
+        return Err(Refusal::Block);
+    }
+    Ok(())
 }
 
 #[cfg(test)]

@@ -1,16 +1,16 @@
 // Whitening over a kit: the last two blocks of a key are XORed to what goes in and to what comes out.
 // Promises the whitened meaning of the kit below, for every kit.
 // Rests on the answers of the crate's root.
-ghost use Rattle.std.specs.Prelude.{◌≡◌, length, IfOk};
+ghost use Rattle.std.specs.Prelude.{◌≡◌, ◌≤◌, length, IfOk};
 ghost use Rattle.refusal.specs.Checks.{refusal};
 ghost use Rattle.layers.specs.Depth.{due_of_block};
-ghost use Rattle.layers.specs.Whitened.{whitened, Parted, Whitens};
+ghost use Rattle.layers.specs.Whitened.{white, whitened, Parted, Whitens};
 ghost use Rattle.layers.specs.WhitensLemmas.{sound_whitened};
 ghost use Rattle.std.proofs.Common.{rules};
 
-use crate::{bounded, refused_here, risen, width_of};
+use crate::{bounded, fitting, risen, width_of};
 use kit::Kit;
-use refusal::Refusal;
+use refusal::{KeyFault, Refusal};
 
 // A kit whose keys have two blocks a and b more: E'(x) = E(x + a) + b.
 #[derive(Clone, Copy)]
@@ -41,19 +41,26 @@ impl<K: Kit> Whitening<K> {
         ensures outcome { refusal result ≡ due_of_block (whitened (K.Kit.meaning self.now.inner)) len (length schedule.now) block }
         ensures parts { IfOk result (λ p. Parted (K.Kit.meaning self.now.inner).width len schedule.now p.rest p.inner.now p.a.now p.b.now) }
     {
-        let cells = self.need(len)?;
-        let width = width_of(&self.inner);
-        if schedule.len() != 16 * cells || block != width {
+        fitting(self.need(len)?, schedule.len())?;
+        if block != width_of(&self.inner) {
             return Err(Refusal::Block);
         }
-        let (inner, white) = schedule.split_at(schedule.len() - 2 * width);
-        let (a, b) = white.split_at(width);
+        let (inner, white) = schedule.split_at(schedule.len() - self.white());
+        let (a, b) = white.split_at(block);
         Ok(Parts {
-            rest: len - 2 * width,
+            rest: len - self.white(),
             inner,
             a,
             b,
         })
+    }
+
+    // The bytes of a and b together.
+    fn white(&self) -> usize
+        ensures is { result ≡ white (K.Kit.meaning self.now.inner) }
+        ensures small { result ≤ 64 }
+    {
+        2 * width_of(&self.inner)
     }
 }
 
@@ -67,24 +74,18 @@ impl<K: Kit> Kit for Whitening<K> {
     ghost sound = { λ k. sound_whitened (K.Kit.meaning k.inner) (K.Kit.sound k.inner) };
 
     fn need(&self, len: usize) -> Result<usize, Refusal> {
-        let white = 2 * width_of(&self.inner);
-        if len < white {
-            return Err(refused_here(len));
-        }
-        let cells = risen(self.inner.need(len - white))?;
+        let white = self.white();
+        let rest = len.checked_sub(white).ok_or(KeyFault::here(len))?;
+        let cells = risen(self.inner.need(rest))?;
         bounded(len, cells + white / 16)
     }
 
     fn expand(&self, key: &[u8], schedule: &mut [u8]) -> Result<(), Refusal> {
-        let cells = self.need(key.len())?;
-        if schedule.len() != 16 * cells {
-            return Err(Refusal::Block);
-        }
-        let white = 2 * width_of(&self.inner);
-        let end = schedule.len() - white;
-        self.inner
-            .expand(&key[0..key.len() - white], &mut schedule[0..end])?;
-        schedule[end..].copy_from_slice(&key[key.len() - white..]);
+        fitting(self.need(key.len())?, schedule.len())?;
+        let (rest, white) = key.split_at(key.len() - self.white());
+        let (inner, end) = schedule.split_at_mut(schedule.len() - self.white());
+        self.inner.expand(rest, inner)?;
+        end.copy_from_slice(white);
         Ok(())
     }
 

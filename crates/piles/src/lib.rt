@@ -9,6 +9,7 @@ mod tests {
     use kit::Kit;
     use layers::{Cascade, Whitening};
     use refusal::{KeyFault, Refusal};
+    use std::process::Abort;
 
     // The bytes 00 to 2F; a key is as many of them as it has.
     const KEY: [u8; 48] = [
@@ -54,45 +55,32 @@ mod tests {
 
     #[test]
     fn aes_needs(rt: HostRuntime) {
-        assert_eq!(rt; Aes.need(16), Ok(11));
-        assert_eq!(rt; Aes.need(24), Ok(13));
-        assert_eq!(rt; Aes.need(32), Ok(15));
+        for (length, cells) in [(16, 11), (24, 13), (32, 15)] {
+            assert_eq!(rt; Aes.need(length), Ok(cells));
+        }
         for length in [0, 15, 17, 48, 256, 272, 1 << 63] {
             assert_eq!(rt; Aes.need(length), Err(wrong(0, length)));
         }
     }
 
-    #[test]
-    fn aes_128(rt: HostRuntime) {
-        let mut schedule = [0; 176];
+    // The first `len` bytes of KEY fill `cells` cells, under which TEXT becomes `cipher`, and again TEXT.
+    fn comes_back<K: Kit>(rt: &impl Abort, kit: &K, len: usize, cells: usize, cipher: &[u8; 16]) {
+        assert!(rt; len <= 48 && cells <= 24);
+        let mut room = [0; 384];
+        let schedule = &mut room[..16 * cells];
         let mut block = TEXT;
-        assert_eq!(rt; Aes.expand(&KEY[0..16], &mut schedule), Ok(()));
-        assert_eq!(rt; Aes.encipher(16, &schedule, &mut block), Ok(()));
-        assert!(rt; block == AES_128);
-        assert_eq!(rt; Aes.decipher(16, &schedule, &mut block), Ok(()));
+        assert_eq!(rt; kit.expand(&KEY[..len], schedule), Ok(()));
+        assert_eq!(rt; kit.encipher(len, schedule, &mut block), Ok(()));
+        assert!(rt; block == *cipher);
+        assert_eq!(rt; kit.decipher(len, schedule, &mut block), Ok(()));
         assert!(rt; block == TEXT);
     }
 
     #[test]
-    fn aes_192(rt: HostRuntime) {
-        let mut schedule = [0; 208];
-        let mut block = TEXT;
-        assert_eq!(rt; Aes.expand(&KEY[0..24], &mut schedule), Ok(()));
-        assert_eq!(rt; Aes.encipher(24, &schedule, &mut block), Ok(()));
-        assert!(rt; block == AES_192);
-        assert_eq!(rt; Aes.decipher(24, &schedule, &mut block), Ok(()));
-        assert!(rt; block == TEXT);
-    }
-
-    #[test]
-    fn aes_256(rt: HostRuntime) {
-        let mut schedule = [0; 240];
-        let mut block = TEXT;
-        assert_eq!(rt; Aes.expand(&KEY[0..32], &mut schedule), Ok(()));
-        assert_eq!(rt; Aes.encipher(32, &schedule, &mut block), Ok(()));
-        assert!(rt; block == AES_256);
-        assert_eq!(rt; Aes.decipher(32, &schedule, &mut block), Ok(()));
-        assert!(rt; block == TEXT);
+    fn aes_comes_back(rt: HostRuntime) {
+        for (len, cells, cipher) in [(16, 11, AES_128), (24, 13, AES_192), (32, 15, AES_256)] {
+            comes_back(&rt, &Aes, len, cells, &cipher);
+        }
     }
 
     // A schedule or a block one byte off, and nothing is written.
@@ -123,15 +111,9 @@ mod tests {
         assert_eq!(rt; whitened.need(32), Err(wrong(1, 0)));
         assert_eq!(rt; whitened.need(300), Err(wrong(1, 268)));
         assert_eq!(rt; Whitening::over(whitened).need(64), Err(wrong(2, 0)));
-        let mut schedule = [0; 208];
-        let mut block = TEXT;
-        assert_eq!(rt; whitened.expand(&KEY, &mut schedule), Ok(()));
-        assert_eq!(rt; whitened.encipher(48, &schedule, &mut block), Ok(()));
-        assert!(rt; block == WHITENED);
-        assert_eq!(rt; whitened.decipher(48, &schedule, &mut block), Ok(()));
-        assert!(rt; block == TEXT);
+        comes_back(&rt, &whitened, 48, 13, &WHITENED);
         assert_eq!(rt;
-            whitened.encipher(48, &schedule, &mut [0; 15]),
+            whitened.encipher(48, &[0; 208], &mut [0; 15]),
             Err(Refusal::Block)
         );
     }
@@ -143,13 +125,7 @@ mod tests {
         assert_eq!(rt; pair.need(15), Err(wrong(0, 15)));
         assert_eq!(rt; pair.need(16), Err(wrong(1, 0)));
         assert_eq!(rt; pair.need(20), Err(wrong(1, 4)));
-        let mut schedule = [0; 384];
-        let mut block = TEXT;
-        assert_eq!(rt; pair.expand(&KEY[0..40], &mut schedule), Ok(()));
-        assert_eq!(rt; pair.encipher(40, &schedule, &mut block), Ok(()));
-        assert!(rt; block == CASCADED);
-        assert_eq!(rt; pair.decipher(40, &schedule, &mut block), Ok(()));
-        assert!(rt; block == TEXT);
+        comes_back(&rt, &pair, 40, 24, &CASCADED);
     }
 
     // The first kit takes no key of 0 bytes, and none above 256: the cascade then takes none.

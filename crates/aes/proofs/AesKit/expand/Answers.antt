@@ -5,11 +5,6 @@ use Rattle.aes.specs.Versions.{aes}
 use Rattle.aes.specs.Sound.{taken, fitted, schedule_is}
 use Rattle.aes.proofs.AesKit.expand.Goals as goal
 
-pub write_schedule-requires : goal.write_schedule-requires
-write_schedule-requires c =
-    let f = fitted (length c.args.key.now) (length c.args.schedule.now) (sym c.in_ok-fitting.ensures) in
-    let t = taken (length c.args.key.now) f.r f.is in
-    record { some = omega (arith, t.low); words = (t.whole, omega (arith, f.size)); room = omega (arith, f.size, t.words, t.whole) }
 
 pub returns : goal.returns
 unfolding round_keys

@@ -1,7 +1,8 @@
-use Rattle.std.proofs.Common.{◌≡◌, ℕ, ◌-◌, get_or, take, drop, sym, refl, ◌∙◌, arith, w8, Fits, rules}
+use Rattle.std.proofs.Common.{◌≡◌, ℕ, ◌-◌, get_or, take, drop, sym, refl, ◌∙◌, w8, Fits, rules}
 use Rattle.block.proofs.Parts.{bytes_from}
 use Rattle.kit.proofs.Calls.{sized_by, deciphered_fits}
 use Rattle.layers.specs.Cascaded.{bytes_of, dec, cascaded}
+use Rattle.layers.specs.AnswersLemmas.{none_due}
 use Rattle.layers.specs.CascadesLemmas.{fits_first, fits_second, second_dec, passes, leaves}
 use Rattle.layers.proofs.cascade.CascadeKit.decipher.Goals as goal
 
@@ -23,9 +24,7 @@ returns-in_err-decipher g c =
     let h = sized_by (cascaded p m n) len s x (bytes_from s (λ i. (c.type_inv.schedule i).fits)) (bytes_from x (λ i. (fit i).fits)) (sym ensured.outcome) in
     let front = take (bytes_of (m.need p)) s in
     let rest = drop (bytes_of (m.need p)) s in
-    let e = c.in_err-decipher.ensures.outcome ∙ passes n n.dec (len - p) rest x (fits_second p m n sm sn same len s x h x h.block) parts.rest parts.second.now x ensured.parts.rest ensured.parts.back refl in
-    let z : ◌≡◌ {A = ℕ} 0 1 = cc in
-    absurd (omega arith)
+    absurd (none_due c.in_err-decipher.ensures.outcome (passes n n.dec (len - p) rest x (fits_second p m n sm sn same len s x h x h.block) parts.rest parts.second.now x ensured.parts.rest ensured.parts.back refl))
 
 pub returns : goal.returns
 unfolding dec

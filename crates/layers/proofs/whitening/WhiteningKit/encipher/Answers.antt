@@ -1,7 +1,8 @@
-use Rattle.std.proofs.Common.{◌≡◌, ℕ, get_or, sym, ◌∙◌, arith, w8, Fits, rules}
+use Rattle.std.proofs.Common.{ℕ, get_or, sym, ◌∙◌, w8, Fits, rules}
 use Rattle.block.proofs.Parts.{bytes_from}
 use Rattle.kit.proofs.Calls.{sized_by, enciphered_fits}
 use Rattle.layers.specs.Whitened.{block_a, block_b, enc, whitened}
+use Rattle.layers.specs.AnswersLemmas.{none_due}
 use Rattle.layers.specs.WhitensLemmas.{fits_below, whole_a, whole_b, passes, comes_out}
 use Rattle.layers.proofs.whitening.WhiteningKit.encipher.Goals as goal
 
@@ -19,9 +20,7 @@ returns-in_err-encipher g c =
     let h = sized_by (whitened m) len s x (bytes_from s (λ i. (c.type_inv.schedule i).fits)) (bytes_from x (λ i. (fit i).fits)) (sym ensured.outcome) in
     let none = passes m sound len s x h m.enc (λ y hy. sound.enciphers _ _ y (fits_below m sound len s x h y hy)) (block_a m.width s) (block_b m.width s) (whole_a m sound len s x h) (whole_b m sound len s x h)
     p.rest p.inner.now p.a.now c.xor_into.new.block ensured.parts.rest ensured.parts.inner ensured.parts.a c.xor_into.ensures in
-    let e = c.in_err-encipher.ensures.outcome ∙ none in
-    let z : ◌≡◌ {A = ℕ} 0 1 = cc in
-    absurd (omega arith)
+    absurd (none_due c.in_err-encipher.ensures.outcome none)
 
 pub returns : goal.returns
 unfolding enc

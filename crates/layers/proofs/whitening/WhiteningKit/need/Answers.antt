@@ -1,5 +1,7 @@
-use Rattle.std.proofs.Common.{◌≡◌, ◌+◌, ◌-◌, ◌*◌, ◌/◌, ◌<◌, ◌≤◌, Ok, Err, sym, ap, ◌∙◌, arith, rules}
+use Rattle.std.proofs.Common.{◌≡◌, ◌+◌, ◌-◌, ◌/◌, ◌<◌, ◌≤◌, Ok, Err, sym, ap, ◌∙◌, arith, rules}
 use Rattle.std.proofs.lemmas.Result.{err_from_is_err_and}
+use Rattle.refusal.specs.declared.Refusal.TheVariants.{Key}
+use Rattle.refusal.specs.Faults.{here}
 use Rattle.kit.specs.Calls.{told}
 use Rattle.kit.proofs.Calls.{told_ok}
 use Rattle.layers.specs.Depth.{risen, bounded, both}
@@ -8,30 +10,33 @@ use Rattle.layers.specs.AnswersLemmas.{risen_ok, both_refused}
 use Rattle.layers.specs.WhitensLemmas.{need_short, need_long}
 use Rattle.layers.proofs.whitening.WhiteningKit.need.Goals as goal
 
-pub returns-then-len-white : goal.returns-then-len-white
-returns-then-len-white g c =
+pub returns-in_err-rest : goal.returns-in_err-rest
+returns-in_err-rest g c =
     let m = g.K.Kit.meaning c.args.self.now.inner in
-    let short : c.args.len < white m = omega (arith, c.width_of-white.ensures.is) in
-    ap Err c.refused_here.ensures ∙ sym (ap told (need_short m c.args.len short))
+    let len = c.args.len in
+    let short : len < c.white-white.result = search rules in
+    let is : c.from_residual.result ≡ Err (Key (here len)) = search rules in
+    is ∙ sym (ap told (need_short m len (omega (arith, short, c.white-white.ensures.is))))
 
 pub returns-in_err-cells : goal.returns-in_err-cells
 returns-in_err-cells g c =
     let m = g.K.Kit.meaning c.args.self.now.inner in
     let len = c.args.len in
-    let long : white m ≤ len = omega (arith, c.width_of-white.ensures.is) in
-    let p = err_from_is_err_and c.from_residual.result c.from_residual.ensures.1 in
+    let long : c.white-white.result ≤ len = search rules in
+    let left : c.in_ok-rest.rest ≡ len - c.white-white.result = search rules in
+    let p = err_from_is_err_and c.from_residual-in_err-cells.result c.from_residual-in_err-cells.ensures.1 in
     let rises : c.risen.result ≡ told (risen (m.need (len - white m))) =
-    c.risen.ensures (m.need (len - 2 * c.width_of-white.result)) c.need.ensures
-    ∙ ap (λ w. told (risen (m.need (len - 2 * w)))) c.width_of-white.ensures.is in
+    c.risen.ensures (m.need c.in_ok-rest.rest) c.need.ensures ∙ ap (λ l. told (risen (m.need l))) (left ∙ ap (λ w. len - w) c.white-white.ensures.is) in
     p.1 ∙ ap Err p.2
-    ∙ sym (ap told (need_long m len long) ∙ both_refused len (risen (m.need (len - white m))) (Ok (white_cells m)) _ (sym rises ∙ c.in_err-cells.was))
+    ∙ sym (ap told (need_long m len (omega (arith, long, c.white-white.ensures.is)))
+    ∙ both_refused len (risen (m.need (len - white m))) (Ok (white_cells m)) _ (sym rises ∙ c.in_err-cells.was))
 
 pub overflow_add-cells : goal.overflow_add-cells
 overflow_add-cells g c =
     let k = c.args.self.now.inner in
     let m = g.K.Kit.meaning k in
     let n = c.in_ok-cells.cells in
-    let l = c.args.len - 2 * c.width_of-white.result in
+    let l = c.in_ok-rest.rest in
     let rises = c.risen.ensures (m.need l) c.need.ensures in
     let few : n ≤ 96 = ((g.met.K.Kit.sound k).cells l n (risen_ok (m.need l) n (told_ok (risen (m.need l)) n (sym rises ∙ c.in_ok-cells.was)))).1 in
     search rules
@@ -41,10 +46,10 @@ returns g c =
     let m = g.K.Kit.meaning c.args.self.now.inner in
     let len = c.args.len in
     let n = c.in_ok-cells.cells in
-    let long : white m ≤ len = omega (arith, c.width_of-white.ensures.is) in
+    let long : c.white-white.result ≤ len = search rules in
+    let left : c.in_ok-rest.rest ≡ len - c.white-white.result = search rules in
     let rises : c.risen.result ≡ told (risen (m.need (len - white m))) =
-    c.risen.ensures (m.need (len - 2 * c.width_of-white.result)) c.need.ensures
-    ∙ ap (λ w. told (risen (m.need (len - 2 * w)))) c.width_of-white.ensures.is in
+    c.risen.ensures (m.need c.in_ok-rest.rest) c.need.ensures ∙ ap (λ l. told (risen (m.need l))) (left ∙ ap (λ w. len - w) c.white-white.ensures.is) in
     let accepts : risen (m.need (len - white m)) ≡ Ok n = told_ok (risen (m.need (len - white m))) n (sym rises ∙ c.in_ok-cells.was) in
-    c.bounded.ensures ∙ ap (λ w. told (bounded len (n + 2 * w / 16))) c.width_of-white.ensures.is
-    ∙ sym (ap told (need_long m len long ∙ ap (λ r. both len r (Ok (white_cells m))) accepts))
+    c.bounded.ensures ∙ ap (λ w. told (bounded len (n + w / 16))) c.white-white.ensures.is
+    ∙ sym (ap told (need_long m len (omega (arith, long, c.white-white.ensures.is)) ∙ ap (λ r. both len r (Ok (white_cells m))) accepts))
