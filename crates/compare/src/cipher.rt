@@ -82,6 +82,7 @@ impl Cipher {
     }
 }
 
+// Each name stands twice, here and in `Display`: a search by name would need a list of all ciphers, a third one.
 impl FromStr for Cipher {
     ghost use Rattle.std.specs.Prelude.{◌≡◌, ◌≢◌, MatchResult};
     ghost use Rattle.compare.specs.declared.cipher.Cipher.{Cipher};

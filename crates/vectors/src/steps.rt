@@ -87,6 +87,7 @@ impl Step<'_> {
         }
     }
 
+    // A function for each cipher: they differ in a round's key, in the order of their checks and in the crate that they call.
     // Rounds are counted from 1, and the post key stands after the last.
     fn take_mkv(self, schedule: &[u8], state: &mut [u8]) -> Result<(), Fault> {
         let before = self
