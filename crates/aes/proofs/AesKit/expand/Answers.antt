@@ -2,9 +2,8 @@ use Rattle.std.proofs.Common.{◌≡◌, ◌+◌, ◌-◌, ◌*◌, ◌/◌, len
 use Rattle.kit.specs.Calls.{unless}
 use Rattle.aes.specs.Keys.{words, schedule as round_keys}
 use Rattle.aes.specs.Versions.{aes}
-use Rattle.aes.specs.Sound.{taken, fitted, schedule_is}
+use Rattle.aes.specs.Sound.{fitted, schedule_is}
 use Rattle.aes.proofs.AesKit.expand.Goals as goal
-
 
 pub returns : goal.returns
 unfolding round_keys
