@@ -25,16 +25,7 @@ module _ (b : Books) (f : Buffers) (l : Running) (tail : Option Running → List
   scratch_told false d = rw (ne_eqb f.scratch 1536 d) refl
 
   module _ (right : eqb f.scratch 1536 ≡ true) where
-    -- what comes next, is told next
-    pub early_told : (o : Bool) (e : Refusal) → Some e ≡ first ((not o, Closed) ∷ (not (eqb f.memory b.size), Memory) ∷ []) → Some e ≡ first (checks o)
-    early_told false e told = rw right told
-    early_told true e told = rw right (go (eqb f.memory b.size) told)
-      where
-        go : (t : Bool) → Some e ≡ cond (not t) (Some Memory) None → Some e ≡ cond (not t) (Some Memory) (first (tail (Some l)))
-        go true told = let z : ◌≡◌ {A = ℕ} 0 1 = cc in absurd (omega arith)
-        go false told = told
-
-    -- and where neither is due, the tail tells
+    -- where neither the link nor the memory is refused, the tail tells
     pub later_told : (o : Bool) → None ≡ first ((not o, Closed) ∷ (not (eqb f.memory b.size), Memory) ∷ []) → (o ≡ true) × (eqb f.memory b.size ≡ true) × (first (checks o) ≡ first (tail (Some l)))
     later_told false told = let z : ◌≡◌ {A = ℕ} 0 1 = cc in absurd (omega arith)
     later_told true told =
@@ -44,12 +35,9 @@ module _ (b : Books) (f : Buffers) (l : Running) (tail : Option Running → List
 -- ---- memory of another length: something is told, and what the cells hold does not matter
 
 module _ (b b₂ : Books) (f : Buffers) (l l₂ : Running) (tail : Option Running → List (Bool × Refusal)) (same : b₂.size ≡ b.size) (other : f.memory ≡ b.size → ⊥) where
-  told_alike : (s : Bool) (o : Bool) → first (link_checks b f (maybe o l) ++ tail (maybe o l)) ≡ first (link_checks b₂ f (maybe o l₂) ++ tail (maybe o l₂))
-  told_alike s false = refl
-  told_alike s true = rw (same, ne_eqb f.memory b.size other) refl
-
   pub unshown_alike : (o : Bool) → first (link_checks b f (maybe o l) ++ tail (maybe o l)) ≡ first (link_checks b₂ f (maybe o l₂) ++ tail (maybe o l₂))
-  unshown_alike o = told_alike true o
+  unshown_alike false = refl
+  unshown_alike true = rw (same, ne_eqb f.memory b.size other) refl
 
   pub unshown_told : (o : Bool) → None ≡ first (link_checks b f (maybe o l) ++ tail (maybe o l)) → ⊥
   unshown_told false none = go (eqb f.scratch 1536) none

@@ -20,7 +20,7 @@ use Rattle.bank_calls.specs.Calls.{gave, lengths_with, Written, Kept, Shuts, Str
 use Rattle.bank_calls.specs.declared.state.Bank.{Bank}
 use Rattle.bank_calls.proofs.Tables.{at_same, at_other, open_below}
 use Rattle.bank_calls.proofs.Seen.{seen_open, seen_shut, seen_alike, kept_same}
-use Rattle.bank_calls.proofs.Checks.{early_told, later_told, scratch_told}
+use Rattle.bank_calls.proofs.Checks.{later_told, scratch_told}
 use Rattle.bank_calls.proofs.Puts.{front, within}
 use Rattle.bank_calls.proofs.Invariants.{Sits}
 
@@ -85,11 +85,6 @@ module _ {K : Type 0} (b b' : Bank K) (memory : List (List ℕ)) (i : ℕ) where
   module _ (m : Meaning) (out out' : List ℕ) where
     abbrev pub Did : Result ℕ Refusal → Type 0
     Did r = Ends m (books b memory) (lengths_with 1536 memory out) i (gave r out') (books b' memory) × Written out r out' × MatchResult r (λ _. Shuts b i b') (λ _. Kept b b')
-
-    -- refused before the link was asked
-    pub end_early : (e : Refusal) → Some e ≡ first ((not l.open, Closed) ∷ (not (eqb (length memory) b.shelf.book.size), Memory) ∷ []) → Kept b b' → out' ≡ out → Did (Err e)
-    end_early e told kept o =
-        (record { told = early_told (books b memory) (lengths_with 1536 memory out) (running s memory i l) (end_tail m (lengths_with 1536 memory out)) refl l.open e told; holds = kept_same b b' kept memory }, o, kept)
 
     module _ (told : None ≡ first ((not l.open, Closed) ∷ (not (eqb (length memory) b.shelf.book.size), Memory) ∷ [])) where
       pub later : (l.open ≡ true) × (eqb (length memory) b.shelf.book.size ≡ true) × (first (end_checks m (books b memory) (lengths_with 1536 memory out) i) ≡ first (end_tail m (lengths_with 1536 memory out) (Some (running s memory i l))))

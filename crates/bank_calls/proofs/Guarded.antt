@@ -1,16 +1,13 @@
 -- What the calls promise of the scratch, and what a refusal leaves. Assumes nothing.
-use Rattle.std.proofs.Common.{◌≡◌, ℕ, eqb, List, length, replicate, Ok, Err, Result, sym, refl, ap, ◌∙◌, arith, MatchResult}
-use Rattle.std.proofs.lemmas.Bool.{eq-eqb, ne_eqb, cond-true, cond-false}
+use Rattle.std.proofs.Common.{◌≡◌, ℕ, eqb, List, length, replicate, Ok, Err, Result, sym, refl, ◌∙◌, arith, MatchResult}
+use Rattle.std.proofs.lemmas.Bool.{eq-eqb, cond-true}
 use Rattle.refusal.specs.declared.Refusal.{Refusal}
 use Rattle.bank_calls.specs.Calls.{gave, Wiped, Kept}
 use Rattle.bank_calls.specs.declared.state.Bank.{Bank}
 
-pub untouched : (scratch : List ℕ) → (length scratch ≡ 1536 → ⊥) → Wiped scratch scratch
-untouched scratch d = sym (cond-false (eqb (length scratch) 1536) (replicate 1536 0) scratch (ne_eqb (length scratch) 1536 d))
-
-pub wiped : (scratch scratch' : List ℕ) → length scratch ≡ 1536 → length scratch' ≡ 1536 → scratch' ≡ replicate (length scratch') 0 → Wiped scratch scratch'
-wiped scratch scratch' e e' zeros =
-    zeros ∙ ap (λ n. replicate n 0) e' ∙ sym (cond-true (eqb (length scratch) 1536) (replicate 1536 0) scratch (eq-eqb (length scratch) 1536 e))
+pub wiped : (scratch scratch' : List ℕ) → length scratch ≡ 1536 → scratch' ≡ replicate 1536 0 → Wiped scratch scratch'
+wiped scratch scratch' e zeros =
+    zeros ∙ sym (cond-true (eqb (length scratch) 1536) (replicate 1536 0) scratch (eq-eqb (length scratch) 1536 e))
 
 module _ {K : Type 0} (b b' : Bank K) where
   pub unchanged : Kept b b

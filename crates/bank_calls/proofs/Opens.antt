@@ -1,11 +1,9 @@
 -- A link that is opened. Assumes nothing.
-use Rattle.std.proofs.Common.{◌≡◌, ℕ, ◌*◌, ◌<◌, ◌≤◌, true, false, not, ◌||◌, is_err, eqb, ltb, List, [], ◌∷◌, ◌++◌, length, set, Some, None, Ok, Err, Result, sym, refl, ap, ◌∙◌, subst, ap₂, arith}
+use Rattle.std.proofs.Common.{◌≡◌, ℕ, ◌*◌, ◌<◌, ◌≤◌, true, false, not, ◌||◌, is_err, eqb, ltb, List, [], ◌∷◌, ◌++◌, length, set, Some, None, Ok, Err, Result, sym, ap, ◌∙◌, subst, ap₂, arith}
 use Rattle.std.proofs.lemmas.Bool.{eq-eqb, ne_eqb, eqb-true, le-ltb, ltb-false, not-false, both_ways, cond-false}
 use Rattle.refusal.specs.Checks.{first}
-use Rattle.refusal.specs.declared.KeyFault.{KeyFault}
 use Rattle.refusal.specs.declared.Refusal.{Refusal}
-use Rattle.refusal.specs.declared.Refusal.TheVariants as refusal
-use Rattle.refusal.specs.declared.Refusal.TheVariants.{Scratch, Memory, Cells, Key, Start, Links}
+use Rattle.refusal.specs.declared.Refusal.TheVariants.{Scratch, Memory, Cells, Start, Links}
 use Rattle.refusal.proofs.Checks.{told_here, none_due}
 use Rattle.kit.specs.Meaning.{Meaning}
 use Rattle.shelf.specs.Standing.{Standing, standing, free}
@@ -44,28 +42,14 @@ named_by a md d e f =
 
 -- ---- the checks, as the code goes through them
 
-module _ (m : Meaning) (size «open» room : ℕ) (a : Ask) (right : eqb a.scratch 1536 ≡ true) where
-  pub mode_told : unknown a ≡ true → Some refusal.Mode ≡ first (open_checks m size «open» room a)
-  mode_told u = rw (right, u) refl
+module _ (m : Meaning) (size «open» room : ℕ) (a : Ask) (right : eqb a.scratch 1536 ≡ true) (known : unknown a ≡ false) (n : ℕ) (takes : m.need (length a.key) ≡ Ok n) where
+  rest : first (open_checks m size «open» room a) ≡ first ((not (eqb (length a.start) m.width), Start) ∷ (not (eqb a.memory size), Memory) ∷ (ltb 7 «open», Links) ∷ (ltb room n, Cells) ∷ [])
+  rest =
+      cond-false (not (eqb a.scratch 1536)) _ _ (ap not right) ∙ cond-false (unknown a) _ _ known
+      ∙ ap (λ q. first ((key_checks q ++ start_checks m size «open» a) ++ ((ltb room (elim q [ Ok k ↦ k | Err fault ↦ 0 ]), Cells) ∷ []))) takes
 
-  module _ (known : unknown a ≡ false) where
-    pub key_told : (fault : KeyFault) → m.need (length a.key) ≡ Err fault → Some (Key fault) ≡ first (open_checks m size «open» room a)
-    key_told fault e = rw (right, known) (ap (λ q. first ((key_checks q ++ start_checks m size «open» a) ++ ((ltb room (need m a.key), Cells) ∷ []))) (sym e))
-
-    module _ (n : ℕ) (takes : m.need (length a.key) ≡ Ok n) where
-      pub needs : need m a.key ≡ n
-      needs = ap (λ q. elim q [ Ok k ↦ k | Err fault ↦ 0 ]) takes
-
-      rest : first (open_checks m size «open» room a) ≡ first ((not (eqb (length a.start) m.width), Start) ∷ (not (eqb a.memory size), Memory) ∷ (ltb 7 «open», Links) ∷ (ltb room n, Cells) ∷ [])
-      rest =
-          cond-false (not (eqb a.scratch 1536)) _ _ (ap not right) ∙ cond-false (unknown a) _ _ known
-          ∙ ap (λ q. first ((key_checks q ++ start_checks m size «open» a) ++ ((ltb room (elim q [ Ok k ↦ k | Err fault ↦ 0 ]), Cells) ∷ []))) takes
-
-      pub start_told : (length a.start ≡ m.width → ⊥) → Some Start ≡ first (open_checks m size «open» room a)
-      start_told d = told_here _ _ _ (ap not (ne_eqb (length a.start) m.width d)) ∙ sym rest
-
-      pub room_told : length a.start ≡ m.width → first (open_checks m size «open» room a) ≡ first ((not (eqb a.memory size), Memory) ∷ (ltb 7 «open», Links) ∷ (ltb room n, Cells) ∷ [])
-      room_told e = rest ∙ cond-false _ _ _ (ap not (eq-eqb (length a.start) m.width e))
+  pub room_told : length a.start ≡ m.width → first (open_checks m size «open» room a) ≡ first ((not (eqb a.memory size), Memory) ∷ (ltb 7 «open», Links) ∷ (ltb room n, Cells) ∷ [])
+  room_told e = rest ∙ cond-false _ _ _ (ap not (eq-eqb (length a.start) m.width e))
 
 -- ---- what an accepted open leaves
 

@@ -22,7 +22,7 @@ use Rattle.bank_calls.specs.Calls.{gave, lengths_with, Written, Kept, Steps}
 use Rattle.bank_calls.specs.declared.state.Bank.{Bank}
 use Rattle.bank_calls.proofs.Tables.{at_same, at_other, open_below, set_again}
 use Rattle.bank_calls.proofs.Seen.{seen_open, kept_same}
-use Rattle.bank_calls.proofs.Checks.{early_told, later_told, scratch_told}
+use Rattle.bank_calls.proofs.Checks.{later_told, scratch_told}
 
 -- the front of an output that begins with g
 pub front : (g out out' : List ℕ) (n : ℕ) → n ≡ length g → out' ≡ one.overwritten out g → (take n out' ≡ g) × (drop n out' ≡ drop n out)
@@ -48,11 +48,6 @@ module _ {K : Type 0} (m : Meaning) (b b' : Bank K) (memory : List (List ℕ)) (
 
   abbrev Did : Result ℕ Refusal → Type 0
   Did r = Puts m (books b memory) (lengths_with 1536 memory out) i piece (gave r out') (books b' memory) × Written out r out' × MatchResult r (λ _. Steps b i b') (λ _. Kept b b')
-
-  -- refused before the link was asked
-  pub put_early : (e : Refusal) → Some e ≡ first ((not l.open, Closed) ∷ (not (eqb (length memory) b.shelf.book.size), Memory) ∷ []) → Kept b b' → out' ≡ out → Did (Err e)
-  put_early e told kept o =
-      (record { told = early_told (books b memory) (lengths_with 1536 memory out) (running s memory i l) (λ x. put_tail m (lengths_with 1536 memory out) x piece) refl l.open e told; holds = kept_same b b' kept memory }, o, kept)
 
   module _ (told : None ≡ first ((not l.open, Closed) ∷ (not (eqb (length memory) b.shelf.book.size), Memory) ∷ [])) (l' : Link) (kit : b'.kit ≡ b.kit) (shelf : b'.shelf ≡ b.shelf) (links : b'.links ≡ set b.links i l') where
     later : (l.open ≡ true) × (eqb (length memory) b.shelf.book.size ≡ true) × (first (put_checks m (books b memory) (lengths_with 1536 memory out) i piece) ≡ first (put_tail m (lengths_with 1536 memory out) (Some (running s memory i l)) piece))

@@ -1,4 +1,4 @@
-// The calls of a bank, as firmware makes them: the scratch is checked and put under guard, then one inner call does the rest.
+// The calls of a bank, as firmware makes them: the scratch is checked, then one inner call puts it under guard and does the rest.
 ghost use Rattle.std.specs.Prelude.{◌≡◌, ℕ, true, List, [], length, replicate, is_err, Ok, MatchResult};
 ghost use Rattle.link.specs.Record.{closed};
 ghost use Rattle.bank.specs.Calls.{Opens, Puts, Ends, Strikes};
@@ -8,7 +8,6 @@ ghost use Rattle.bank_calls.specs.Seen.{books};
 ghost use Rattle.bank_calls.specs.Calls.{number, gave, reason, asked, lengths, Wiped, Written, Kept, Sizes, Counted, Takes, Steps, Shuts, StrikesOne};
 ghost use Rattle.bank_calls.specs.Pasts.{Adds, AddsUnshown};
 
-use crate::guard::Guard;
 use crate::inner::Asked;
 use crate::state::Bank;
 use crate::ticket::{Returned, Ticket};
@@ -19,9 +18,6 @@ use shelf::{KeyCell, Shelf};
 
 // How many links a bank has.
 const LINKS: usize = 8;
-
-// The bytes of the scratch: as many as the longest schedule has.
-const SCRATCH: usize = 1536;
 
 impl<K: Kit> Bank<K> {
     // A bank without cells, all links closed.
@@ -70,17 +66,14 @@ impl<K: Kit> Bank<K> {
         ensures link { MatchResult result (λ t. Takes (K.Kit.meaning self.old.kit) self.old memory.old (asked scratch.old memory.old mode direction key.now start.now) t.link self.new memory.new) (λ _. Kept self.old self.new × (memory.new ≡ memory.old)) }
         ensures past { Adds (K.Kit.meaning self.old.kit) self.old memory.old (opens (asked scratch.old memory.old mode direction key.now start.now) (number result)) self.new memory.new }
     {
-        if scratch.len() != SCRATCH {
-            return Err(Refusal::Scratch);
-        }
-        let room = Guard { bytes: scratch };
+        let bytes = scratch.as_mut_array().ok_or(Refusal::Scratch)?;
         let asked = Asked {
             mode,
             direction,
             key,
             start,
         };
-        let link = self.open_with(room.bytes, memory, &asked)?;
+        let link = self.open_with(bytes, memory, &asked)?;
         Ok(Ticket { link })
     }
 
@@ -99,11 +92,8 @@ impl<K: Kit> Bank<K> {
         ensures link { MatchResult result (λ _. Steps self.old link self.new) (λ _. Kept self.old self.new) }
         ensures past { Adds (K.Kit.meaning self.old.kit) self.old memory.now (puts link piece.now (gave result out.new)) self.new memory.now }
     {
-        if scratch.len() != SCRATCH {
-            return Err(Refusal::Scratch);
-        }
-        let guard = Guard { bytes: scratch };
-        self.put_with(guard.bytes, memory, link, piece, out)
+        let bytes = scratch.as_mut_array().ok_or(Refusal::Scratch)?;
+        self.put_with(bytes, memory, link, piece, out)
     }
 
     // Ends a link: what it still gives is the front of `out`, its cells are free, and it is closed. A refusal hands the
@@ -121,14 +111,14 @@ impl<K: Kit> Bank<K> {
         ensures link { MatchResult result (λ _. Shuts self.old ticket.link self.new) (λ e. Kept self.old self.new × (e.ticket ≡ ticket)) }
         ensures past { Adds (K.Kit.meaning self.old.kit) self.old memory.now (ends ticket.link (gave (reason result) out.new)) self.new memory.now }
     {
-        if scratch.len() != SCRATCH {
+        let Some(bytes) = scratch.as_mut_array() else {
             return Err(Returned {
                 refusal: Refusal::Scratch,
                 ticket,
             });
-        }
-        let guard = Guard { bytes: scratch };
-        match self.end_with(guard.bytes, memory, ticket.link, out) {
+        };
+        // no `?`: each way does something else with the ticket
+        match self.end_with(bytes, memory, ticket.link, out) {
             Ok(given) => {
                 let Ticket { link: _ } = ticket;
                 Ok(given)

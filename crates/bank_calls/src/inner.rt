@@ -1,5 +1,5 @@
 // What the calls of a bank do under the scratch's guard.
-ghost use Rattle.std.specs.Prelude.{◌≡◌, ℕ, ◌<◌, ◌≤◌, true, false, ◌||◌, List, [], ◌∷◌, length, take, MatchOption, MatchResult, nat_lt};
+ghost use Rattle.std.specs.Prelude.{◌≡◌, ℕ, ◌<◌, ◌≤◌, true, false, ◌||◌, List, [], ◌∷◌, take, replicate, MatchOption, MatchResult, nat_lt};
 ghost use Rattle.refusal.specs.Checks.{Answers};
 ghost use Rattle.refusal.specs.declared.Refusal.TheVariants.{Mode as UnknownMode};
 ghost use Rattle.shelf.specs.Standing.{standing, free as free_cells};
@@ -11,6 +11,7 @@ ghost use Rattle.bank_calls.specs.Table.{at};
 ghost use Rattle.bank_calls.specs.Seen.{books};
 ghost use Rattle.bank_calls.specs.Calls.{asked_with, lengths_with, gave, load_checks, room_checks, Written, Kept, Takes, Steps, Shuts};
 
+use crate::guard::{Guard, SCRATCH};
 use crate::state::Bank;
 use kit::{Kit, Width};
 use link::Link;
@@ -66,11 +67,10 @@ impl<K: Kit> Bank<K> {
     // An open link's schedule, gathered to the front of the scratch; how many bytes it has.
     fn load(
         &self,
-        scratch: &mut [u8],
+        scratch: &mut [u8; SCRATCH],
         memory: &[KeyCell],
         link: usize,
     ) -> Result<usize, Refusal>
-        requires { length scratch.old ≡ 1536 }
         ensures { Answers (load_checks self.now memory.now link) result (λ n. (n ≤ 1536) × (take n scratch.new ≡ joined (list (standing self.now.shelf.book) memory.now link))) (Unit {0}) }
     {
         if !self.is_open(link) {
@@ -88,17 +88,19 @@ impl<K: Kit> Bank<K> {
         let _ = self.shelf.drop_chain(link);
     }
 
-    // Opens a link, once the scratch is under guard.
+    // Opens a link, with the scratch under guard.
     pub(super) fn open_with(
         &mut self,
-        scratch: &mut [u8],
+        scratch: &mut [u8; SCRATCH],
         memory: &mut [KeyCell],
         asked: &Asked<'_>,
     ) -> Result<usize, Refusal>
-        requires { length scratch.old ≡ 1536 }
+        ensures scratch { scratch.new ≡ replicate 1536 0 }
         ensures outcome { Opens (K.Kit.meaning self.old.kit) (books self.old memory.old) (asked_with 1536 memory.old asked.now.mode asked.now.direction asked.now.key.now asked.now.start.now) result (books self.new memory.new) }
         ensures link { MatchResult result (λ i. Takes (K.Kit.meaning self.old.kit) self.old memory.old (asked_with 1536 memory.old asked.now.mode asked.now.direction asked.now.key.now asked.now.start.now) i self.new memory.new) (λ _. Kept self.old self.new × (memory.new ≡ memory.old)) }
     {
+        let room = Guard { bytes: scratch };
+        let scratch = &mut *room.bytes;
         let Asked {
             mode,
             direction,
@@ -121,38 +123,43 @@ impl<K: Kit> Bank<K> {
         Ok(link)
     }
 
-    // Puts a piece, once the scratch is under guard.
+    // Puts a piece, with the scratch under guard.
     pub(super) fn put_with(
         &mut self,
-        scratch: &mut [u8],
+        scratch: &mut [u8; SCRATCH],
         memory: &[KeyCell],
         link: usize,
         piece: &[u8],
         out: &mut [u8],
     ) -> Result<usize, Refusal>
-        requires { length scratch.old ≡ 1536 }
+        ensures scratch { scratch.new ≡ replicate 1536 0 }
         ensures outcome { Puts (K.Kit.meaning self.old.kit) (books self.old memory.now) (lengths_with 1536 memory.now out.old) link piece.now (gave result out.new) (books self.new memory.now) }
         ensures output { Written out.old result out.new }
         ensures link { MatchResult result (λ _. Steps self.old link self.new) (λ _. Kept self.old self.new) }
     {
+        let guard = Guard { bytes: scratch };
+        let scratch = &mut *guard.bytes;
         let n = self.load(scratch, memory, link)?;
         self.links[link].put(&self.kit, &scratch[0..n], piece, out)
     }
 
-    // Ends a link, once the scratch is under guard.
+    // Ends a link, with the scratch under guard.
     pub(super) fn end_with(
         &mut self,
-        scratch: &mut [u8],
+        scratch: &mut [u8; SCRATCH],
         memory: &[KeyCell],
         link: usize,
         out: &mut [u8],
     ) -> Result<usize, Refusal>
-        requires { length scratch.old ≡ 1536 }
+        ensures scratch { scratch.new ≡ replicate 1536 0 }
         ensures outcome { Ends (K.Kit.meaning self.old.kit) (books self.old memory.now) (lengths_with 1536 memory.now out.old) link (gave result out.new) (books self.new memory.now) }
         ensures output { Written out.old result out.new }
         ensures link { MatchResult result (λ _. Shuts self.old link self.new) (λ _. Kept self.old self.new) }
     {
+        let guard = Guard { bytes: scratch };
+        let scratch = &mut *guard.bytes;
         let n = self.load(scratch, memory, link)?;
+        // a copy, since a call on the table's own record makes it count as written
         let record = self.links[link];
         let given = record.end(&self.kit, &scratch[0..n], out)?;
         self.close(link);

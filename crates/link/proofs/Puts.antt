@@ -1,5 +1,5 @@
 -- A piece's checks. Assumes nothing.
-use Rattle.std.proofs.Common.{◌≡◌, ℕ, ◌<◌, ◌≤◌, Bool, true, false, ltb, List, [], ◌∷◌, length, Ok, Err, sym, refl, ap, ◌∙◌}
+use Rattle.std.proofs.Common.{◌≡◌, ℕ, ◌<◌, ◌≤◌, Bool, true, false, List, [], ◌∷◌, length, Ok, Err, sym, refl, ap, ◌∙◌}
 use Rattle.std.proofs.lemmas.Bool.{lt-ltb, le-ltb}
 use Rattle.refusal.specs.Checks.{first}
 use Rattle.refusal.specs.declared.Refusal.TheVariants.{Piece, Output}
@@ -13,9 +13,6 @@ checks_as a b a' b' e f = ap (λ t. first ((t, Piece) ∷ (b, Output) ∷ [])) e
 module _ (m : Meaning) (s : List ℕ) (l : Link) (piece out : List ℕ) where
   abbrev count : ℕ
   count = length (link_given m s l piece)
-
-  pub put_long : 4096 < length piece → Puts m s l piece out (Err Piece) l out
-  put_long h = record { told = sym (checks_as _ (ltb (length out) count) true (ltb (length out) count) (lt-ltb 4096 (length piece) h) refl); holds = (refl, refl) }
 
   pub put_short : length piece ≤ 4096 → length out < count → Puts m s l piece out (Err Output) l out
   put_short h lt = record { told = sym (checks_as _ _ false true (le-ltb 4096 (length piece) h) (lt-ltb (length out) count lt)); holds = (refl, refl) }

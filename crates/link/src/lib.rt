@@ -20,7 +20,8 @@ use refusal::Refusal;
 // The bytes of the longest piece.
 const LONGEST: usize = 4096;
 
-// The record of a link.
+// The record of a link. Closing writes zeros over all of it, so closed ones are records too: a flag and no Option, arrays with
+// how much of them counts beside, and no invariant that a block has bytes, which would leave each call to ask `1 ≤ width`.
 #[derive(Clone, Copy)]
 pub struct Link {
     pub open: bool,
@@ -44,6 +45,7 @@ pub enum Call {
     End,
 }
 
+// Kit and schedule stay two parameters: of a struct of both each clause would say `cipher.entry.kit.now`, and callers would build it.
 impl Link {
     // A closed record, all zeros.
     pub fn closed() -> Link

@@ -1,4 +1,4 @@
-use Rattle.std.proofs.Common.{◌≡◌, ℕ, ◌-◌, List, take, Ok, Err, Result, sym, ap, ◌∙◌, subst, arith}
+use Rattle.std.proofs.Common.{◌≡◌, ℕ, ◌-◌, List, take, Ok, Err, Result, sym, ap, ◌∙◌, subst, arith, rules}
 use Rattle.std.proofs.lemmas.Result.{err_from_is_err_and}
 use Rattle.refusal.specs.declared.Refusal.{Refusal}
 use Rattle.shelf.specs.Standing.{standing}
@@ -32,7 +32,7 @@ returns-in_err-given g c =
     let d = end_refused b b memory i m c.args.out.now c.end.new.out held.told c.in_err-given.field-0.0 (subst P schedule c.in_err-given.ensures) (unchanged b b) in
     let Q : Result ℕ Refusal → Type 0 = Did b b memory i m c.args.out.now c.end.new.out in
     let q = subst Q (sym (p.1 ∙ ap Err p.2)) d in
-    record { outcome = q.0; output = q.1; link = q.2 }
+    record { scratch = search rules; outcome = q.0; output = q.1; link = q.2 }
 
 pub close-requires : goal.close-requires
 close-requires g c = load_low c.args.self.now c.args.memory.now c.args.link c.in_ok-n.ensures.told
@@ -49,4 +49,4 @@ returns g c =
     let schedule : take (n - 0) c.load.new.scratch ≡ joined (list (standing b.shelf.book) memory i) = ap (λ k. take k c.load.new.scratch) whole ∙ held.holds.1 in
     let P : List ℕ → Type 0 = λ s. one.Ends m s (at b.links i) c.args.out.now (Ok c.in_ok-given.given) c.end.new.out in
     let d = end_given b c.close.new.self memory i m c.args.out.now c.end.new.out held.told c.in_ok-given.given c.end.auto.out (subst P schedule c.in_ok-given.ensures) c.close.ensures in
-    record { outcome = d.0; output = d.1; link = d.2 }
+    record { scratch = search rules; outcome = d.0; output = d.1; link = d.2 }

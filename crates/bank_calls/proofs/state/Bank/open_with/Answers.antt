@@ -1,9 +1,7 @@
-use Rattle.std.proofs.Common.{◌≡◌, ℕ, ◌-◌, ◌*◌, ◌≤◌, false, List, length, take, set, None, Ok, Err, Result, sym, refl, ap, ◌∙◌, subst, ap₂, arith, rules, MatchResult}
+use Rattle.std.proofs.Common.{◌≡◌, ℕ, ◌-◌, ◌*◌, ◌≤◌, false, List, length, take, set, Ok, Err, Result, sym, refl, ap, ◌∙◌, subst, ap₂, arith, rules, MatchResult}
 use Rattle.std.proofs.lemmas.List.{length-take-le}
 use Rattle.std.proofs.lemmas.Result.{err_from_is_err_and}
 use Rattle.refusal.specs.declared.Refusal.{Refusal}
-use Rattle.refusal.specs.declared.Refusal.TheVariants.{Mode}
-use Rattle.refusal.proofs.Checks.{none_due}
 use Rattle.kit.specs.Meaning.{Meaning}
 use Rattle.kit.proofs.Calls.{told_ok, expanded_fits}
 use Rattle.shelf.specs.Standing.{standing, free}
@@ -38,7 +36,7 @@ returns-in_err-link g c =
     let told = c.in_err-link.ensures.told ∙ room_alike b memory (length memory) n ∙ sym (room_told m b.shelf.book.size _ (free (standing b.shelf.book)) a refl known n takes whole) in
     let P : Result ℕ Refusal → Type 0 = λ r. Opens m (books b memory) a r (books b memory) × MatchResult r (λ i. Takes m b memory a i b memory) (λ _. Kept b b × (memory ≡ memory)) in
     let q : P _ = subst P (sym (p.1 ∙ ap Err p.2)) (record { told = told; holds = kept_same b b (unchanged b b) memory }, (unchanged b b, refl)) in
-    record { outcome = q.0; link = q.1 }
+    record { scratch = search rules; outcome = q.0; link = q.1 }
 
 pub slice_bounds-schedule-end : goal.slice_bounds-schedule-end
 slice_bounds-schedule-end g c =
@@ -46,8 +44,7 @@ slice_bounds-schedule-end g c =
     let m = g.K.Kit.meaning b.kit in
     let n = c.in_ok-need.need in
     let takes : m.need (length c.args.asked.now.key.now) ≡ Ok n = told_ok (m.need (length c.args.asked.now.key.now)) n (sym c.in_ok-need.ensures) in
-    let long : length c.args.scratch.now ≡ 1536 = c.requires in
-    let fit : 16 * n ≤ length c.args.scratch.now = omega (arith, ((g.met.K.Kit.sound b.kit).cells (length c.args.asked.now.key.now) n takes).1) in
+    let fit : 16 * n ≤ 1536 = omega (arith, ((g.met.K.Kit.sound b.kit).cells (length c.args.asked.now.key.now) n takes).1) in
     fit
 
 module _ (g : given.Over) (c : After-opened g) where
@@ -65,7 +62,7 @@ module _ (g : given.Over) (c : After-opened g) where
   passed = room_passed c.args.self.now (length c.args.memory.now) c.in_ok-need.need c.in_ok-link.ensures.told
 
   part : length (take (16 * c.in_ok-need.need - 0) c.args.scratch.now) ≡ 16 * c.in_ok-need.need
-  part = length-take-le (16 * c.in_ok-need.need - 0) c.args.scratch.now (omega (arith, c.requires, few.1)) ∙ omega arith
+  part = let whole : length c.args.scratch.now ≡ 1536 = search rules in length-take-le (16 * c.in_ok-need.need - 0) c.args.scratch.now (omega (arith, whole, few.1)) ∙ omega arith
 
   written-schedule : c.expand.new.schedule ≡ m.schedule c.args.asked.now.key.now
   written-schedule = c.expand.ensures.written ∙ expanded_fits m c.args.asked.now.key.now (take (16 * c.in_ok-need.need - 0) c.args.scratch.now) c.in_ok-need.need takes part
@@ -113,4 +110,4 @@ returns g c =
     let is : d.opened.result ≡ begun (mode_of a.mode) (direction_of a.direction) (length a.key) (m g d).width a.start =
     d.opened.ensures.record ∙ ap₂ (λ x y. begun x y (length a.key) d.width-width.result a.start) named.0 named.1 ∙ ap (λ w. begun (mode_of a.mode) (direction_of a.direction) (length a.key) w a.start) wide in
     let q = opened_both (m g d) b _ memory d.append_bytes.new.cells a i n (takes g d) vacant.0 vacant.1 (long g d) (passed g d).1 (sym (ap view is) ∙ d.opened.ensures.state) refl (ap (set b.links i) is) (grown g d) in
-    record { outcome = record { told = told; holds = q.0 }; link = q.1 }
+    record { scratch = search rules; outcome = record { told = told; holds = q.0 }; link = q.1 }

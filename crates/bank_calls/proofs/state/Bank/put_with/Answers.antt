@@ -1,4 +1,4 @@
-use Rattle.std.proofs.Common.{◌≡◌, ℕ, ◌-◌, List, take, refl, ap, ◌∙◌, subst, arith}
+use Rattle.std.proofs.Common.{◌≡◌, ℕ, ◌-◌, List, take, refl, ap, ◌∙◌, subst, arith, rules}
 use Rattle.shelf.specs.Standing.{standing}
 use Rattle.shelf.specs.Items.{list}
 use Rattle.shelf.specs.Keys.{joined}
@@ -34,4 +34,4 @@ returns g c =
     let schedule : take (n - 0) c.load.new.scratch ≡ joined (list (standing b.shelf.book) memory i) = ap (λ k. take k c.load.new.scratch) whole ∙ held.holds.1 in
     let P : List ℕ → Type 0 = λ s. one.Puts m s (at b.links i) c.args.piece.now c.args.out.now c.put.result c.put.new.self c.put.new.out in
     let d = put_later m b _ memory i c.args.piece.now c.args.out.now c.put.new.out held.told c.put.new.self refl refl refl c.put.auto.out c.put.result (subst P schedule c.put.ensures) in
-    record { outcome = d.0; output = d.1; link = d.2 }
+    record { scratch = search rules; outcome = d.0; output = d.1; link = d.2 }
