@@ -68,7 +68,7 @@ impl Asked {
 }
 
 impl Options {
-    // Whether the season's file would be put in the place of a search file. Standard output has no name, as little as a file without one.
+    // Whether the season's file would be put in the place of a search file. Where it goes to standard output, an empty word counts as one.
     pub fn replaces_a_file(&self) -> bool {
         let path = self.season.as_ref().map_or("", |path| path.as_str());
         self.files.iter().any(|file| file.as_str() == path)
