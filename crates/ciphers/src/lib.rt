@@ -72,6 +72,7 @@ fn need_after<A: Kit<Width = Width16> + Copy>(
     }
 }
 
+// A match that names each kit: kits are types, and no `dyn Kit` has them all, since each says its own width.
 impl Pile {
     // The cells of 16 bytes that a key of `len` bytes needs, or refusal 7.
     pub fn need(&self, len: usize) -> Result<usize, Refusal>

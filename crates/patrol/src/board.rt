@@ -31,6 +31,7 @@ impl Board {
 }
 
 // The lists of a set that have records.
+// A loop: reading a list takes memory, and a closure of `filter_map` can't fail.
 pub(super) fn lists(heap: Global, set: &Transceiver) -> Result<Vec<Listed>, AllocError> {
     let mut all = Vec::new(heap);
     for list in 0..LISTS {

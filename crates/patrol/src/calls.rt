@@ -1,5 +1,5 @@
 // What a set can be asked: each call answers as its shelf does.
-ghost use Rattle.std.specs.Prelude.{◌≡◌};
+ghost use Rattle.std.specs.Prelude.{◌≡◌, ◌<◌, ◌≤◌, length};
 ghost use Rattle.shelf.specs.Standing.{free as free_cells};
 ghost use Rattle.shelf.specs.Calls.{Empty, Append, Read, Gather, Drop as Dropping};
 ghost use Rattle.patrol.specs.declared.calls.SizeError.TheVariants.{Refused, Memory};
@@ -99,8 +99,11 @@ impl Transceiver {
     }
 
     // How many records a list has; none where there is no such list.
-    pub(super) fn count(&self, list: usize) -> usize {
-        self.whole(list).map_or(0, |records| records.len())
+    pub(super) fn count(&self, list: usize) -> usize
+        ensures listed { list < 16 → result ≡ length ((stands self.now).chain list) }
+        ensures none { 16 ≤ list → result ≡ 0 }
+    {
+        self.shelf.count(list).unwrap_or(0)
     }
 
     // Loses a list: its cells are free again.

@@ -1,6 +1,6 @@
 // The search file: a search as people write it down, one statement a line.
 // Promises how the figures of a line are read, and which fault is told where one is none.
-// Rests on `signal`.
+// Rests on `signal` and `ciphers`.
 #![tactic(auto)]
 
 mod fault;
