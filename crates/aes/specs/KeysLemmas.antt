@@ -135,9 +135,6 @@ expands nk r key some l h =
 
 -- ---- the code
 
-pub quotient_some : (nk i : ℕ) → 0 < nk → nk ≤ i → 1 ≤ i / nk
-quotient_some nk i h l = let e = div-eq-sub-div h l in omega arith
-
 pub x_power_none : x_power 0 ≡ 1
 unfolding x_power
 x_power_none = refl

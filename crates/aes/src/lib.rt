@@ -79,10 +79,7 @@ fn rounds_for(len: usize) -> Option<usize>
 fn fitting(len: usize, schedule: usize) -> Result<(), Refusal>
     ensures { refusal result ≡ first (expand_checks (needed len) schedule) }
 {
-    if schedule != 16 * Aes.need(len)? {
-        return Err(Refusal::Block);
-    }
-    Ok(())
+    kit::fitting(Aes.need(len)?, schedule)
 }
 
 // The steps of a round.

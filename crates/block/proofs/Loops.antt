@@ -34,10 +34,6 @@ over_all (z ∷ zs) (x ∷ xs) zero e rest =
 over_all (z ∷ zs) (x ∷ xs) (suc i) e rest =
     ap (λ l. z ∷ l) (over_all zs xs i (omega arith) (λ k h l. rest (suc k) (omega arith) (omega arith)))
 
--- the end of a loop that reached every place
-pub over_whole : (zs xs : List ℕ) (i : ℕ) → length xs ≤ i → length zs ≡ length xs → over zs xs i ≡ zs
-over_whole zs xs i h e = over_all zs xs i e (λ k a b. absurd (omega arith))
-
 pub length_fitted : (n : ℕ) (xs : List ℕ) → length (fitted n xs) ≡ n
 unfolding fitted
 length_fitted zero xs = refl

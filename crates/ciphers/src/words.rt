@@ -43,7 +43,7 @@ impl Base {
 }
 
 impl Pile {
-    // The pile that words name.
+    // The pile that words name: words and not a text, since the grammar of the line has cut them.
     pub fn named(words: &[&str]) -> Option<Pile> {
         let (coat, base) = match words {
             ["whitened", "whitened", rest @ ..] => (Coat::TwiceWhitened, rest),

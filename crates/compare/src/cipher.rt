@@ -7,7 +7,7 @@ ghost use Rattle.refusal.specs.Checks.{refusal};
 ghost use Rattle.compare.specs.Ciphers.{meaning, title};
 
 use crate::fault::Fault;
-use kit::{Kit, Width};
+use kit::{Kit, width_of};
 use refusal::Refusal;
 use std::fmt;
 use std::str::FromStr;
@@ -37,13 +37,6 @@ macro_rules! of_kit {
             }
         }
     };
-}
-
-// The bytes of a kit's blocks.
-fn width_of<K: Kit>(kit: &K) -> usize
-    ensures { result ≡ (K.meaning kit.now).width }
-{
-    K::Width::width()
 }
 
 impl Cipher {

@@ -95,19 +95,6 @@ undoes_by p t n m lp ln lm e = record { low = ltb→lt p 256 lp; left = all_byte
 
 -- ---- the loops
 
-pub dot_more : (p : ℕ) (xs ys : List ℕ) (i : ℕ) → i < length xs → i < length ys
-    → dot p (drop i xs) (drop i ys) ≡ bit_xor (mul p (get_or xs i 0) (get_or ys i 0)) (dot p (drop (i + 1) xs) (drop (i + 1) ys))
-unfolding dot
-dot_more p xs ys i hx hy = ap₂ (dot p) (drop_more xs i 0 hx) (drop_more ys i 0 hy)
-
-pub dot_all : (p : ℕ) (xs ys : List ℕ) (i : ℕ) → min (length xs) (length ys) ≤ i → dot p (drop i xs) (drop i ys) ≡ 0
-unfolding dot
-dot_all p xs ys i h =
-    elim (cases_lt i (length xs)) [
-      | inl l ↦ ap (dot p (drop i xs)) (drop_all i ys (omega arith)) ∙ dot_nil p (drop i xs)
-      | inr l ↦ ap (λ l. dot p l (drop i ys)) (drop_all i xs l)
-    ]
-
 pub length_apply : (p : ℕ) (m : List (List ℕ)) (v : List ℕ) → length (apply p m v) ≡ length m
 unfolding apply
 length_apply p m v = length-map m (λ row. dot p row v)

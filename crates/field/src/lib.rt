@@ -26,6 +26,7 @@ pub fn mul(poly: u8, a: u8, b: u8) -> u8
     let mut sum = 0;
     let mut power = a;
     let mut rest = b;
+    // eight times the same: what is left of `b` and the power change together
     for _i in 0..8u8 {
         if rest % 2 == 1 {
             sum ^= power;
@@ -49,6 +50,7 @@ pub fn dot(poly: u8, row: &[u8], v: &[u8]) -> u8
 pub fn apply<const T: usize>(poly: u8, m: &[[u8; T]], v: &[u8]) -> [u8; T]
     ensures { result ≡ fitted T (matrix poly m.now v.now) }
 {
+    // not `array::from_fn`: in a generic function a closure would need the whole clause again
     let mut out = [0; T];
     let rows = T.min(m.len());
     for (i, row) in m[..rows].iter().enumerate() {

@@ -11,23 +11,8 @@ use Rattle.kit.specs.Calls.{told, expand_checks, cipher_checks, unless, cipher_r
 
 -- ---- the checks, by the answer to the key's length
 
-pub expand_wrong_key : (need : Result ℕ KeyFault) (out : ℕ) (fault : KeyFault) → need ≡ Err fault → first (expand_checks need out) ≡ Some (Key fault)
-expand_wrong_key need out fault e = ap (λ r. first (expand_checks r out)) e
-
-pub expand_wrong_size : (need : Result ℕ KeyFault) (out n : ℕ) → need ≡ Ok n → (out ≡ 16 * n → ⊥) → first (expand_checks need out) ≡ Some WrongSize
-expand_wrong_size need out n e d = ap (λ r. first (expand_checks r out)) e ∙ rw (ne_eqb out (16 * n) d)
-
 pub expand_passes : (need : Result ℕ KeyFault) (out n : ℕ) → need ≡ Ok n → out ≡ 16 * n → first (expand_checks need out) ≡ None
 expand_passes need out n e s = ap (λ r. first (expand_checks r out)) e ∙ rw (eq-eqb out (16 * n) s)
-
-pub cipher_wrong_key : (w : ℕ) (need : Result ℕ KeyFault) (s b : ℕ) (fault : KeyFault) → need ≡ Err fault → first (cipher_checks w need s b) ≡ Some (Key fault)
-cipher_wrong_key w need s b fault e = ap (λ r. first (cipher_checks w r s b)) e
-
-pub cipher_wrong_schedule : (w : ℕ) (need : Result ℕ KeyFault) (s b n : ℕ) → need ≡ Ok n → (s ≡ 16 * n → ⊥) → first (cipher_checks w need s b) ≡ Some WrongSize
-cipher_wrong_schedule w need s b n e d = ap (λ r. first (cipher_checks w r s b)) e ∙ rw (ne_eqb s (16 * n) d)
-
-pub cipher_wrong_block : (w : ℕ) (need : Result ℕ KeyFault) (s b n : ℕ) → need ≡ Ok n → s ≡ 16 * n → (b ≡ w → ⊥) → first (cipher_checks w need s b) ≡ Some WrongSize
-cipher_wrong_block w need s b n e f d = ap (λ r. first (cipher_checks w r s b)) e ∙ rw (eq-eqb s (16 * n) f, ne_eqb b w d)
 
 pub cipher_passes : (w : ℕ) (need : Result ℕ KeyFault) (s b n : ℕ) → need ≡ Ok n → s ≡ 16 * n → b ≡ w → first (cipher_checks w need s b) ≡ None
 cipher_passes w need s b n e f h = ap (λ r. first (cipher_checks w r s b)) e ∙ rw (eq-eqb s (16 * n) f, eq-eqb b w h)

@@ -3,17 +3,17 @@
 // Rests on the reasons of crate refusal and the bytes of crate block.
 #![tactic(auto)]
 
-ghost use Rattle.std.specs.Prelude.{◌≡◌, ℕ, ◌⊎◌};
-ghost use Rattle.refusal.specs.Checks.{refusal};
+ghost use Rattle.std.specs.Prelude.{◌≡◌, ℕ, ◌≤◌, ◌⊎◌, Ok};
+ghost use Rattle.refusal.specs.Checks.{first, refusal};
 ghost use Rattle.kit.specs.Meaning.{Meaning, Sound, AgreeBack};
-ghost use Rattle.kit.specs.Calls.{told, expand_refusal, cipher_refusal, expanded, enciphered, deciphered};
+ghost use Rattle.kit.specs.Calls.{told, expand_checks, expand_refusal, cipher_refusal, expanded, enciphered, deciphered};
 ghost use Rattle.std.proofs.Common.{rules};
 
 use refusal::Refusal;
 
 // The bytes of a block, 16 or 32, as a type.
 pub trait Width {
-    // for the length of an array; code over any width asks `width()`
+    // for the length of an array of a caller's; code over any width asks `width()`
     const BYTES: usize;
 
     ghost bytes: { ℕ };
@@ -23,6 +23,8 @@ pub trait Width {
 
     ghost one: { (bytes ≡ 16) ⊎ (bytes ≡ 32) };
 }
+
+// Two types, with an impl each: a type over a const parameter would have every width, and no bound rules the others out.
 
 // Blocks of 16 bytes.
 #[derive(Clone, Copy)]
@@ -57,8 +59,8 @@ impl Width for Wide {
 }
 
 // A block cipher with all its key lengths. Keys, schedules and blocks are bytes of the caller's.
-// A schedule and its key's length stay two arguments: of a struct with a lifetime each clause would say
-// `schedule.entry.key schedule.entry.bytes.now`.
+// A schedule and its key's length stay two arguments: of a struct of both each clause would say
+// `schedule.now.key schedule.now.bytes.now`, and each caller would build one.
 pub trait Kit {
     type Width: Width;
 
@@ -86,6 +88,24 @@ pub trait Kit {
     ghost width: { (k : Self) → (meaning k).width ≡ Self.Width.Width.bytes };
 
     ghost sound: { (k : Self) → Sound (meaning k) };
+}
+
+// The bytes of a block: what the type says of the width, said of the kit's meaning.
+pub fn width_of<K: Kit>(kit: &K) -> usize
+    ensures is { result ≡ (K.Kit.meaning kit.now).width }
+    ensures small { result ≤ 32 }
+{
+    K::Width::width()
+}
+
+// Whether a schedule of `size` bytes has so many cells.
+pub fn fitting(cells: usize, size: usize) -> Result<(), Refusal>
+    ensures { refusal result ≡ first (expand_checks (Ok cells) size) }
+{
+    if cells.checked_mul(16) != Some(size) {
+        return Err(Refusal::Block);
+    }
+    Ok(())
 }
 
 // Two kits whose widths are one type have one width; and where they agree on a key, they decipher alike under it.

@@ -8,8 +8,8 @@ ghost use Rattle.layers.specs.Cascaded.{bytes_of, cascaded, Parted, Cascades};
 ghost use Rattle.layers.specs.CascadesLemmas.{sound_cascaded};
 ghost use Rattle.std.proofs.Common.{rules, sym, ◌∙◌};
 
-use crate::{bounded, fitting, risen, width_of};
-use kit::Kit;
+use crate::{bounded, risen};
+use kit::{Kit, fitting, width_of};
 use refusal::{KeyFault, Refusal};
 
 // Two kits; the first `split` bytes of a key go to the first, the rest to the second.

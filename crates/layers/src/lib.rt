@@ -3,17 +3,15 @@
 // Rests on the interface of crate kit, and on the XOR of crate block.
 #![tactic(auto)]
 
-ghost use Rattle.std.specs.Prelude.{◌≡◌, ℕ, ◌≤◌, Ok, Result};
+ghost use Rattle.std.specs.Prelude.{◌≡◌, ℕ, Result};
 ghost use Rattle.refusal.specs.declared.KeyFault.{KeyFault};
-ghost use Rattle.refusal.specs.Checks.{first, refusal};
-ghost use Rattle.kit.specs.Calls.{told, expand_checks};
+ghost use Rattle.kit.specs.Calls.{told};
 ghost use Rattle.layers.specs.Depth.{risen as one_deeper, bounded as in_bounds};
 
 mod cascade;
 mod whitening;
 
 pub use cascade::Cascade;
-use kit::{Kit, Width};
 use refusal::{KeyFault, Refusal};
 pub use whitening::Whitening;
 
@@ -21,14 +19,6 @@ pub use whitening::Whitening;
 const MAX_CELLS: usize = 96;
 
 const MAX_KEY: usize = 256;
-
-// The bytes of a block: what the type says of the width, said of the kit's meaning.
-fn width_of<K: Kit>(kit: &K) -> usize
-    ensures is { result ≡ (K.Kit.meaning kit.now).width }
-    ensures small { result ≤ 32 }
-{
-    K::Width::width()
-}
 
 // An answer from below, as a layer passes it on: a refusal stands one deeper, and a depth of 255 grows no further.
 fn risen(answer: Result<usize, Refusal>) -> Result<usize, Refusal>
@@ -51,16 +41,6 @@ fn bounded(len: usize, cells: usize) -> Result<usize, Refusal>
         return Err(KeyFault::here(len).into());
     }
     Ok(cells)
-}
-
-// Whether a schedule of `size` bytes has the cells of a key.
-fn fitting(cells: usize, size: usize) -> Result<(), Refusal>
-    ensures { refusal result ≡ first (expand_checks (Ok cells) size) }
-{
-    if cells.checked_mul(16) != Some(size) {
-        return Err(Refusal::Block);
-    }
-    Ok(())
 }
 
 #[cfg(test)]

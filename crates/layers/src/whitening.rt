@@ -8,8 +8,8 @@ ghost use Rattle.layers.specs.Whitened.{white, whitened, Parted, Whitens};
 ghost use Rattle.layers.specs.WhitensLemmas.{sound_whitened};
 ghost use Rattle.std.proofs.Common.{rules};
 
-use crate::{bounded, fitting, risen, width_of};
-use kit::Kit;
+use crate::{bounded, risen};
+use kit::{Kit, fitting, width_of};
 use refusal::{KeyFault, Refusal};
 
 // A kit whose keys have two blocks a and b more: E'(x) = E(x + a) + b.

@@ -5,16 +5,16 @@ use Rattle.block.specs.Bytes.{Bytes, Block}
 use Rattle.block.proofs.Parts.{bytes_from, bytes_take}
 use Rattle.kit.specs.Meaning.{Meaning, Sound}
 use Rattle.kit.proofs.Calls.{block_enciphered, block_deciphered}
-use Rattle.modes.specs.Machine.{limit, due_count}
+use Rattle.modes.specs.Machine.{limit, due_count, end_count}
 use Rattle.modes.specs.Laws.{Enciphers, Deciphers, Fit}
 use Rattle.modes.specs.declared.Mode.{Mode}
 use Rattle.modes.specs.declared.Mode.TheVariants.{Cbc, Cfb, Ofb}
 use Rattle.modes.specs.declared.Direction.{Direction}
 use Rattle.modes.specs.declared.Direction.TheVariants.{Send, Receive}
-use Rattle.modes.proofs.Counts.{counts}
+use Rattle.modes.proofs.Counts.{counts, ends_count}
 use Rattle.link.specs.declared.Link.{Link}
 use Rattle.link.specs.Record.{view, instrument, Fits}
-use Rattle.link.specs.Calls.{link_given, Gives}
+use Rattle.link.specs.Calls.{link_given, link_closing, Gives}
 
 limit_below : (md : Mode) (d : Direction) (w : ℕ) → limit md d w ≤ suc w
 limit_below Cbc Send w = omega arith
@@ -63,6 +63,9 @@ module _ (m : Meaning) (s : List ℕ) (l : Link) (f : Fits l) (a : Arrays l) whe
     given_count piece bp =
         (counts l.mode l.direction (instrument m s l) (view l) piece enciphers deciphers fit bp).1
         ∙ ap (λ n. due_count l.mode l.direction l.width n (length piece)) count_held
+
+    pub closing_count : length (link_closing m s l) ≡ end_count l.mode l.direction (instrument m s l) (view l)
+    closing_count = ends_count l.mode l.direction (instrument m s l) (view l) enciphers fit
 
 -- a count that is the machine's is that of the bytes, under every kit and schedule
 pub gives_by : (l : Link) → Fits l → Arrays l → (n r : ℕ) → r ≡ due_count l.mode l.direction l.width l.count n → Gives l n r

@@ -2,6 +2,7 @@
 // Promises what each block then holds, for every schedule.
 // Rests on the kit's calls and on the joining of crate modes.
 ghost use Rattle.std.specs.Prelude.{◌≡◌, ◌≤◌, length, take};
+ghost use Rattle.block.specs.Bytes.{Bytes};
 ghost use Rattle.kit.specs.Calls.{enciphered, deciphered};
 ghost use Rattle.modes.specs.Join.{join, part};
 ghost use Rattle.modes.specs.Machine.{cipher_byte};
@@ -13,6 +14,13 @@ use kit::Kit;
 use modes::Direction;
 use modes::join::{join_byte, join_into, part_byte, part_into};
 
+// Does nothing: tells a caller's proof that what a slice of bytes holds are bytes, which generic code does not see in a record.
+pub fn are_bytes(xs: &[u8])
+    ensures { Bytes xs.now }
+{
+    let _none = xs.is_empty();
+}
+
 // The bytes of `src` at the front of `out`.
 pub fn write_front(out: &mut [u8], src: &[u8])
     requires { length src.now ≤ length out.old }
@@ -21,6 +29,7 @@ pub fn write_front(out: &mut [u8], src: &[u8])
     out[0..src.len()].copy_from_slice(src);
 }
 
+// That a width is at most 32 stays a premise: the fields are public, and an invariant would ask more of whoever builds a record.
 impl Link {
     // E of a block of text joined with the block before.
     pub(crate) fn seal<K: Kit>(&self, kit: &K, schedule: &[u8], text: &[u8; 32]) -> [u8; 32]

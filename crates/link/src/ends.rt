@@ -8,7 +8,7 @@ ghost use Rattle.link.specs.Record.{Fits};
 ghost use Rattle.link.specs.Calls.{Ends};
 
 use crate::Link;
-use crate::blocks::write_front;
+use crate::blocks::{are_bytes, write_front};
 use kit::Kit;
 use modes::padding::{pad_from, text_end};
 use refusal::Refusal;
@@ -26,12 +26,14 @@ impl Link {
         requires sends { self.now.direction ≡ Send }
         ensures { Ends (K.Kit.meaning kit.now) schedule.now self.now out.old result out.new }
     {
-        let mut text = self.held;
-        pad_from(&mut text[0..self.width], self.count);
-        let block = self.seal(kit, schedule, &text);
+        are_bytes(&self.chain);
+        are_bytes(&self.held);
         if out.len() < self.width {
             return Err(Refusal::Output);
         }
+        let mut text = self.held;
+        pad_from(&mut text[0..self.width], self.count);
+        let block = self.seal(kit, schedule, &text);
         write_front(out, &block[0..self.width]);
         Ok(self.width)
     }

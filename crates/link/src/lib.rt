@@ -114,6 +114,7 @@ impl Link {
         ensures { Stepped (K.Kit.meaning kit.now) schedule.now self.old call out.old result self.new out.new }
     {
         match (self.mode, self.direction, call) {
+            // a piece is taken without this arm; it stays, since a step is any call
             (_, _, Call::Byte(x)) => Ok(self.take(kit, schedule, x, out)),
             (Mode::Cbc, Direction::Send, Call::End) => self.send_end(kit, schedule, out),
             (Mode::Cbc, Direction::Receive, Call::End) => self.receive_end(kit, schedule, out),

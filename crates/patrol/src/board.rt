@@ -31,7 +31,7 @@ impl Board {
 }
 
 // The lists of a set that have records.
-// A loop: reading a list takes memory, and a closure of `filter_map` can't fail.
+// A loop: a chain over results would sort what is empty from what failed, and is no shorter.
 pub(super) fn lists(heap: Global, set: &Transceiver) -> Result<Vec<Listed>, AllocError> {
     let mut all = Vec::new(heap);
     for list in 0..LISTS {

@@ -22,6 +22,7 @@ pub(super) enum SizeError {
     Memory(AllocError),
 }
 
+// By hand: `size` promises which error it is, and a derived `From` promises nothing.
 impl From<Refusal> for SizeError {
     ghost from_gives = { λ refusal e. e ≡ Refused refusal };
 

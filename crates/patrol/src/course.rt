@@ -10,6 +10,7 @@ use std::alloc::{AllocError, Global};
 
 #[derive(Drop)]
 pub struct Search {
+    heap: Global,
     // once the file has told it
     title: Option<String>,
     // By name, the leader first. A patroller's place is its number, and that of the leader's list for its reports.
@@ -21,6 +22,7 @@ impl Search {
     // A search of which nothing is told yet.
     pub fn new(heap: Global) -> Search {
         Search {
+            heap,
             title: None,
             sets: IndexMap::new(heap),
             second: 0,
@@ -28,11 +30,11 @@ impl Search {
     }
 
     // Its title, with one space between words.
-    pub fn begin(&mut self, heap: Global, title: &str) -> Result<(), Fault> {
+    pub fn begin(&mut self, title: &str) -> Result<(), Fault> {
         if self.title.is_some() {
             return Err(Fault::OneSearch);
         }
-        self.title = Some(spaced(heap, title)?);
+        self.title = Some(spaced(self.heap, title)?);
         Ok(())
     }
 
@@ -145,9 +147,8 @@ fn spaced(heap: Global, text: &str) -> Result<String, AllocError> {
 
 // A refusal is told as an event; a fault stays one.
 fn told(done: Result<Event, Undone>) -> Result<Event, Fault> {
-    match done {
-        Ok(event) => Ok(event),
-        Err(Undone::Refused(refused)) => Ok(Event::Refused(refused)),
-        Err(Undone::Fault(fault)) => Err(fault),
-    }
+    done.or_else(|undone| match undone {
+        Undone::Refused(refused) => Ok(Event::Refused(refused)),
+        Undone::Fault(fault) => Err(fault),
+    })
 }

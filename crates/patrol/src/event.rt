@@ -56,6 +56,7 @@ pub(super) enum Undone {
     Fault(Fault),
 }
 
+// By hand: the derive asks for words, and this error is never printed.
 impl From<Refused> for Undone {
     fn from(refused: Refused) -> Undone {
         Undone::Refused(refused)

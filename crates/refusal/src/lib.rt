@@ -98,6 +98,7 @@ impl Refusal {
     }
 }
 
+// By hand: its words are a promise, and a derive makes none.
 impl fmt::Display for Refusal {
     ghost output = { λ r. Some (words r) };
 

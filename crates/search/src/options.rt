@@ -68,7 +68,7 @@ impl Asked {
 }
 
 impl Options {
-    // Whether the season's file would be put in the place of a search file. Where it goes to standard output, an empty word counts as one.
+    // Whether the season's file would be put in the place of a search file. Without a path, an empty file name is told so too.
     pub fn replaces_a_file(&self) -> bool {
         let path = self.season.as_ref().map_or("", |path| path.as_str());
         self.files.iter().any(|file| file.as_str() == path)

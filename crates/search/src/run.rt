@@ -83,7 +83,7 @@ fn one(rt: &HostRuntime, search: &mut Search, line: &str) -> Result<(), Undone> 
     match searchfile::parse(heap, line)? {
         Statement::Blank => Ok(()),
         Statement::Title { title } => {
-            search.begin(heap, title)?;
+            search.begin(title)?;
             println!(rt; "search {title}")?;
             Ok(())
         }

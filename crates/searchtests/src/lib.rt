@@ -15,7 +15,7 @@ mod tests {
         match searchfile::parse(heap, line)? {
             Statement::Blank => Ok(String::new(heap)),
             Statement::Title { title } => {
-                search.begin(heap, title)?;
+                search.begin(title)?;
                 Ok(String::new(heap))
             }
             Statement::Set { role, name, cells } => {

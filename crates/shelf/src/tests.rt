@@ -10,7 +10,7 @@ struct Note {
     second: u32,
 }
 
-// The number of the refusal, or 0.
+// The number of the refusal as firmware sees it, or 0.
 fn told<A: Drop>(r: Result<A, Refusal>) -> u8 {
     r.err().map_or(0, |e| e.number())
 }

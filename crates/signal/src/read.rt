@@ -29,7 +29,7 @@ fn digits(text: &[u8], base: u32) -> Option<u64>
 pub fn number(text: &str) -> Option<usize>
     ensures { SomeIff result (Figure 10 text.now) (digits_value 10 text.now) }
 {
-    digits(text.as_bytes(), 10).map(|n| n as usize)
+    usize::try_from(digits(text.as_bytes(), 10)?).ok()
 }
 
 // A strength: a whole number up to 255.

@@ -1,8 +1,6 @@
 // The steps of the ciphers' rounds, by the names that the data files have for them.
 // Promises nothing of its own: each step is a call of its cipher's crate, which promises it.
 // Rests on the steps of mkv and of aes, and on the parts of a schedule (compare).
-ghost use Rattle.std.specs.Prelude.{◌<◌, ◌^◌};
-
 use block::xor_into;
 use compare::{Cipher, Fault, Keyed, Way, part};
 use std::str::FromStr;
@@ -15,7 +13,7 @@ pub struct Step<'a> {
     pub round: u8,
 }
 
-// A step of cipher steps `S`, or the XOR with a key that is no round's own.
+// A step of cipher steps `S`, or the XOR with a key that is no round's own. Not an Option: `FromStr` is not ours to write for one.
 #[derive(Clone, Copy)]
 enum Named<S> {
     Step(S),
@@ -54,14 +52,9 @@ impl FromStr for Named<aes::Step> {
 }
 
 // Part `index` of a schedule that is cut into parts of `N` bytes.
-pub fn array_part<const N: usize>(schedule: &[u8], index: usize) -> Result<&[u8; N], Fault>
-    requires some { 0 < N }
-    requires fits { N < 2 ^ 63 }
-{
-    schedule
-        .as_chunks()
-        .0
-        .get(index)
+pub fn array_part<const N: usize>(schedule: &[u8], index: usize) -> Result<&[u8; N], Fault> {
+    part(schedule, N, index)?
+        .as_array()
         .ok_or(Fault::Form("a round of this schedule"))
 }
 
