@@ -3,7 +3,7 @@
 
     tools/plant.py CRATE [FILE ..]        FILE: a list of bugs, tools/bugs/CRATE.txt where none is given, or a must-fail edit
 
-A list has a paragraph for each bug: a line `bug: what it does`, then `file:`, `old:` and `new:` as in a must-fail edit (the
+A list has a paragraph for each bug: a line `bug: what it does`, then `file:`, `old:` and `new:` as in a must-fail edit, once or more (the
 old text stands once in that file; \\n is the end of a line). For each bug a row is printed: refused or SURVIVED, the seconds, the
 bug, and the first error.
 The copy is checked by `rt check`, which takes over what the bug leaves alone; it is not the verdict, so a survivor is to be tried
@@ -25,12 +25,18 @@ def bugs(path):
     if path.endswith(".edit"):
         text = f"bug: {pathlib.Path(path).stem.replace('_', ' ')}\n" + text
     for paragraph in re.split(r"\n\s*\n", text.strip()):
-        bug = {}
+        bug, place = {}, {}
         for line in paragraph.splitlines():
             if line.startswith("#"):
                 continue
             name, _, value = line.partition(": ")
-            bug[name] = value.replace("\\n", "\n")
+            value = value.replace("\\n", "\n")
+            if name == "bug":
+                bug["bug"] = value
+            elif name == "new":
+                bug.setdefault("changes", []).append((place["file"], place["old"], value))
+            else:
+                place[name] = value
         if bug:
             yield bug
 
@@ -45,16 +51,28 @@ def first_error(log):
     return log.strip().splitlines()[-1][:220] if log.strip() else "no output"
 
 
+def restore(texts):
+    for path, text in texts.items():
+        path.write_text(text)
+
+
 def plant(copy, crate, bug):
-    path = copy / "crates" / crate / bug["file"]
-    text = path.read_text()
-    if text.count(bug["old"]) != 1:
-        return "NOT PLANTED", 0, f"the old text stands {text.count(bug['old'])} times"
-    path.write_text(text.replace(bug["old"], bug["new"]))
+    before = {}
+    why = ""
+    for file, old, new in bug["changes"]:
+        path = copy / "crates" / crate / file
+        text = path.read_text()
+        before.setdefault(path, text)
+        if text.count(old) != 1:
+            why = f"the old text stands {text.count(old)} times in {file}"
+        path.write_text(text.replace(old, new))
+    if why:
+        restore(before)
+        return "NOT PLANTED", 0, why
     start = time.time()
     run = subprocess.run(["rt", "check"], cwd=copy / "crates" / crate, capture_output=True, text=True)
     seconds = time.time() - start
-    path.write_text(text)
+    restore(before)
     log = run.stdout + run.stderr
     proved = run.returncode == 0 and "logic=not-proved" not in log
     return ("SURVIVED" if proved else "refused"), seconds, ("" if proved else first_error(log))
