@@ -1,5 +1,5 @@
 // Blocks of bytes: the XOR of two, and each byte replaced by a table.
-// Promises what a block then holds, for blocks of any two lengths, and the three facts of XOR.
+// Promises what a block then holds, and the three facts of XOR.
 // Rests on nothing.
 #![tactic(auto)]
 
@@ -31,7 +31,7 @@ pub fn substitute(table: &[u8; 256], block: &mut [u8])
     ensures { block.new ≡ sub table.now block.old }
 {
     for x in block.iter_mut() {
-        *x = table[*x as usize];
+        *x = table[usize::from(*x)];
     }
 }
 

@@ -1,4 +1,4 @@
-use Rattle.std.proofs.Common.{ℕ, ◌++◌, map, get_or, ◌∙◌, ap₂, arith}
+use Rattle.std.proofs.Common.{ℕ, ◌++◌, map, get_or, set, ◌∙◌, ap, ap₂, arith}
 use Rattle.std.proofs.lemmas.List.{take_all, drop_all, append-nil, get_or_default}
 use Rattle.std.proofs.lemmas.List.Edits.{map_over_more}
 use Rattle.block.specs.Table.{sub}
@@ -8,6 +8,7 @@ pub loop-x-preserved : goal.loop-x-preserved
 loop-x-preserved c =
     let l = c.loop-x in
     let x = get_or l.block l.x-index 0 in
+    ap (λ v. set l.block l.x-index (get_or c.args.table.now v 0)) c.from.ensures ∙
     map_over_more (λ x. get_or c.args.table.now x 0) c.args.block.now l.block l.x-index x c.loop-x-test.true l.invariant
     (get_or_default l.block l.x-index 0 x (omega arith))
 
