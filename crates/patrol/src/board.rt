@@ -43,7 +43,7 @@ pub(super) fn lists(heap: Global, set: &Transceiver) -> Result<Vec<Listed>, Allo
     Ok(all)
 }
 
-// A whole list of a set; none where there is no such list.
+// A whole list of a set. Every list that is asked for is there, so that what would be refused is told as empty.
 fn whole(heap: Global, set: &Transceiver, list: usize) -> Result<Vec<SignalRecord>, AllocError> {
     match set.whole(list) {
         Ok(records) => Vec::from_slice(heap, records.as_slice()),

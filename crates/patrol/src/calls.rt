@@ -61,6 +61,7 @@ impl Transceiver {
     pub(super) fn size(&mut self, heap: Global, n: usize) -> Result<(), SizeError>
         ensures { Sized (stands self.old) n result (stands self.new) }
     {
+        // Memory comes first, so that a shelf is not sized where none is left; none is asked for where the shelf will refuse.
         let room = if n <= MOST_CELLS { n } else { 0 };
         let cells = vec![in heap; SignalRecord::default(); room]?;
         self.shelf.size(n)?;

@@ -1,8 +1,8 @@
 // A search under way: the sets by name, the leader's first, and what each statement does to them.
 use super::board::{Board, lists};
 use super::event::{Event, Undone};
+use super::season;
 use super::set::Transceiver;
-use super::{season, steps};
 use indexmap::IndexMap;
 use itertools::Itertools;
 use searchfile::{Action, Fault, Role};
@@ -39,20 +39,14 @@ impl Search {
     }
 
     // A set joins, with its cells.
-    pub fn declare(
-        &mut self,
-        heap: Global,
-        role: Role,
-        name: &str,
-        cells: usize,
-    ) -> Result<Event, Fault> {
+    pub fn declare(&mut self, role: Role, name: &str, cells: usize) -> Result<Event, Fault> {
         self.may_join(role)?;
         if self.sets.contains_key(name) {
             return Err(Fault::NewName);
         }
-        let mut set = Transceiver::new(heap);
-        let event = told(steps::sized(&mut set, heap, cells))?;
-        self.sets.insert(String::from_str(heap, name)?, set)?;
+        let mut set = Transceiver::new(self.heap);
+        let event = told(set.sized(self.heap, cells))?;
+        self.sets.insert(String::from_str(self.heap, name)?, set)?;
         Ok(event)
     }
 
@@ -69,13 +63,7 @@ impl Search {
     }
 
     // A set does something at a second, not before that of the step above.
-    pub fn act(
-        &mut self,
-        heap: Global,
-        second: u32,
-        name: &str,
-        action: &Action,
-    ) -> Result<Event, Fault> {
+    pub fn act(&mut self, second: u32, name: &str, action: &Action) -> Result<Event, Fault> {
         if self.sets.is_empty() {
             return Err(Fault::LeaderFirst);
         }
@@ -84,10 +72,22 @@ impl Search {
             return Err(Fault::LaterTime);
         }
         self.second = second;
-        told(match action {
+        told(self.done(place, action))
+    }
+
+    fn done(&mut self, place: usize, action: &Action) -> Result<Event, Undone> {
+        let heap = self.heap;
+        let set = self.sets.get_index_mut(place).ok_or(Fault::KnownName)?;
+        match action {
+            Action::Hear { record, list } => Ok(set.heard(*list, &[*record])?),
+            Action::Sweep { list, records } => Ok(set.heard(*list, records.as_slice())?),
             Action::Report { list } => self.report(place, *list),
-            _ => self.done(heap, place, action),
-        })
+            Action::Lose { list } => Ok(set.lost(*list)?),
+            Action::Read { list, position } => Ok(set.told(*list, *position)?),
+            Action::List => Ok(Event::Listed),
+            Action::Get { cells } => set.sized(heap, *cells),
+            Action::Key { cipher, bytes } => Ok(set.keyed(*cipher, *bytes)?),
+        }
     }
 
     // A patroller's list goes to the leader's set, onto the list with the patroller's number.
@@ -96,28 +96,13 @@ impl Search {
         let mut sets = self.sets.values_mut();
         let leader = sets.next().ok_or(Fault::LeaderFirst)?;
         let patroller = sets.nth(after_leader).ok_or(Fault::KnownName)?;
-        Ok(steps::reported(patroller, list, leader, place)?)
-    }
-
-    // What one set does for itself.
-    fn done(&mut self, heap: Global, place: usize, action: &Action) -> Result<Event, Undone> {
-        let set = self.sets.get_index_mut(place).ok_or(Fault::KnownName)?;
-        match action {
-            Action::Hear { record, list } => Ok(steps::heard(set, *list, &[*record])?),
-            Action::Sweep { list, records } => Ok(steps::heard(set, *list, records.as_slice())?),
-            Action::Lose { list } => Ok(steps::lost(set, *list)?),
-            Action::Read { list, position } => Ok(steps::told(set, *list, *position)?),
-            Action::Get { cells } => steps::sized(set, heap, *cells),
-            Action::List => Ok(Event::Listed),
-            Action::Key { cipher, bytes } => Ok(steps::keyed(set, *cipher, *bytes)?),
-            Action::Report { list: _ } => Err(Undone::from(Fault::PatrollerName)),
-        }
+        Ok(patroller.reported(list, leader, place)?)
     }
 
     // What probers need of a set.
-    pub fn board(&self, heap: Global, name: &str) -> Result<Board, Fault> {
+    pub fn board(&self, name: &str) -> Result<Board, Fault> {
         let set = self.sets.get(name).ok_or(Fault::KnownName)?;
-        Ok(Board::of(heap, set)?)
+        Ok(Board::of(self.heap, set)?)
     }
 
     // The leader's name, once the file has told it.
@@ -127,12 +112,14 @@ impl Search {
     }
 
     // Adds the season's lines of this search: every record that a set lists now, set by set.
-    pub fn season(&self, heap: Global, text: &mut String) -> Result<(), Fault> {
-        let title = self.title.as_ref().map_or("", |title| title.as_str());
+    pub fn season(&self, text: &mut String) -> Result<(), Fault> {
+        let Some(title) = &self.title else {
+            return Ok(());
+        };
         for (name, set) in self.sets.iter() {
-            let lists = lists(heap, set)?;
+            let lists = lists(self.heap, set)?;
             for record in lists.iter().flat_map(|listed| listed.records.iter()) {
-                let line = season::line(heap, title, name.as_str(), *record)?;
+                let line = season::line(self.heap, title.as_str(), name.as_str(), *record)?;
                 text.push_str(line.as_str())?;
             }
         }

@@ -41,12 +41,12 @@ pub enum Event {
     Refused(Refused),
 }
 
-// A refusal, with the cells that were free then and those that were needed.
+// A refusal, with the cells that were free then and those that were needed, where the call asks for any.
 #[derive(Clone, Copy)]
 pub struct Refused {
     pub refusal: Refusal,
     pub free: usize,
-    pub needed: usize,
+    pub needed: Option<usize>,
 }
 
 // Why a step is not done: a set refuses it, which is told as an event, or its line is at fault.
@@ -158,8 +158,8 @@ impl fmt::Display for Refused {
             needed,
         } = *self;
         let number = refusal.number();
-        match refusal {
-            Refusal::Cells => write!(
+        match (refusal, needed) {
+            (Refusal::Cells, Some(needed)) => write!(
                 f,
                 "refused {number}: {refusal} ({free} free, {needed} needed)"
             ),

@@ -1,5 +1,5 @@
 // A search under way: sets with their signal records on shelves, and what comes of each step.
-// Promises that a set answers as its shelf does, what a report hands on, and the bytes of the season's lines.
+// Promises that a set answers as its shelf does, and the bytes of the season's lines.
 // Rests on `shelf`, `signal`, `ciphers`, `searchfile` and `refusal`.
 #![tactic(auto)]
 

@@ -8,6 +8,7 @@ use thiserror::Error;
 // The program stops before its end. What is wrong has then been told.
 pub struct Stop;
 
+// By hand: the error's words can't be printed either, and a derive would ask for words of this one.
 impl From<io::Error> for Stop {
     fn from(_e: io::Error) -> Stop {
         Stop
@@ -23,20 +24,25 @@ enum Undone {
     Printing(#[from] io::Error),
 }
 
-// Goes through one file, and adds its records to the season's text.
-pub fn file(rt: &HostRuntime, path: &str, season: &mut String) -> Result<(), Stop> {
-    let bytes = fs::read(rt, path).map_err(|e| unusable(rt, path, e))?;
-    let text = std::str::from_utf8(bytes.as_slice()).map_err(|e| {
-        let number = line_of(bytes.as_slice(), e.valid_up_to());
-        told(rt, path, number, "", Undone::Fault(Fault::Text))
-    })?;
-    through(rt, path, text, season)
-}
-
 // Tells of a file that can't be read or written.
 pub fn unusable(rt: &HostRuntime, path: &str, e: io::Error) -> Stop {
     let _ = eprintln!(rt; "search: {path}: {e}");
     Stop
+}
+
+// Goes through one file, and adds its records to the season's text.
+pub fn file(rt: &HostRuntime, path: &str, season: &mut String) -> Result<(), Stop> {
+    let bytes = fs::read(rt, path).map_err(|e| unusable(rt, path, e))?;
+    let mut reading = Reading {
+        rt,
+        path,
+        search: Search::new(rt.alloc()),
+    };
+    let text = std::str::from_utf8(bytes.as_slice()).map_err(|e| {
+        let number = line_of(bytes.as_slice(), e.valid_up_to());
+        reading.told(number, "", Undone::Fault(Fault::Text))
+    })?;
+    reading.through(text, season)
 }
 
 // The number of the line that a byte stands on.
@@ -45,89 +51,93 @@ fn line_of(bytes: &[u8], at: usize) -> usize {
     ends.saturating_add(1)
 }
 
-// Goes through the lines of a text.
-fn through(rt: &HostRuntime, path: &str, text: &str, season: &mut String) -> Result<(), Stop> {
-    let mut search = Search::new(rt.alloc());
-    for (number, line) in (1..).zip(text.lines()) {
-        one(rt, &mut search, line).map_err(|undone| told(rt, path, number, line, undone))?;
-    }
-    ending(rt, &search, season).map_err(|undone| {
-        let number = text.lines().count().saturating_add(1);
-        told(rt, path, number, "", undone)
-    })
+// A search file under way.
+#[derive(Drop)]
+struct Reading<'a> {
+    rt: &'a HostRuntime,
+    path: &'a str,
+    search: Search,
 }
 
-// Tells a bad line: where, what was expected, and the line's beginning.
-fn told(rt: &HostRuntime, path: &str, number: usize, line: &str, undone: Undone) -> Stop {
-    let Undone::Fault(fault) = undone else {
-        return Stop;
-    };
-    let _ = eprintln!(rt; "{path}:{number}: {fault}");
-    let shown = line
-        .trim()
-        .chars()
-        .take(100)
-        .map(|c| if c < ' ' { '?' } else { c })
-        .collect::<String>(rt.alloc());
-    if let Ok(shown) = shown
-        && !shown.is_empty()
-    {
-        let _ = eprintln!(rt; "    {shown}");
-    }
-    Stop
-}
-
-// One line: what it says is done, and what came of it printed.
-fn one(rt: &HostRuntime, search: &mut Search, line: &str) -> Result<(), Undone> {
-    let heap = rt.alloc();
-    match searchfile::parse(heap, line)? {
-        Statement::Blank => Ok(()),
-        Statement::Title { title } => {
-            search.begin(title)?;
-            println!(rt; "search {title}")?;
-            Ok(())
+impl Reading<'_> {
+    // Goes through the lines of a text.
+    fn through(&mut self, text: &str, season: &mut String) -> Result<(), Stop> {
+        for (number, line) in (1..).zip(text.lines()) {
+            self.one(line)
+                .map_err(|undone| self.told(number, line, undone))?;
         }
-        Statement::Set { role, name, cells } => {
-            let event = search.declare(heap, role, name, cells)?;
-            println!(rt; "{role} {name}: {event}")?;
-            Ok(())
+        self.ending(season).map_err(|undone| {
+            let number = text.lines().count().saturating_add(1);
+            self.told(number, "", undone)
+        })
+    }
+
+    // Tells a bad line: where, what was expected, and the line's beginning.
+    fn told(&self, number: usize, line: &str, undone: Undone) -> Stop {
+        let Undone::Fault(fault) = undone else {
+            return Stop;
+        };
+        let path = self.path;
+        let _ = eprintln!(self.rt; "{path}:{number}: {fault}");
+        let shown = line
+            .trim()
+            .chars()
+            .take(100)
+            .map(|c| if c < ' ' { '?' } else { c })
+            .collect::<String>(self.rt.alloc());
+        if let Ok(shown) = shown
+            && !shown.is_empty()
+        {
+            let _ = eprintln!(self.rt; "    {shown}");
         }
-        Statement::Step {
-            second,
-            name,
-            action,
-        } => step(rt, search, second, name, action),
+        Stop
     }
-}
 
-fn step(
-    rt: &HostRuntime,
-    search: &mut Search,
-    second: u32,
-    name: &str,
-    action: Action,
-) -> Result<(), Undone> {
-    let event = search.act(rt.alloc(), second, name, &action)?;
-    let time = Clock(second);
-    println!(rt; "{time} {name}: {event}")?;
-    match event {
-        Event::Listed => lists(rt, search, name),
-        _ => Ok(()),
+    // One line: what it says is done, and what came of it printed.
+    fn one(&mut self, line: &str) -> Result<(), Undone> {
+        match searchfile::parse(self.rt.alloc(), line)? {
+            Statement::Blank => Ok(()),
+            Statement::Title { title } => {
+                self.search.begin(title)?;
+                println!(self.rt; "search {title}")?;
+                Ok(())
+            }
+            Statement::Set { role, name, cells } => {
+                let event = self.search.declare(role, name, cells)?;
+                println!(self.rt; "{role} {name}: {event}")?;
+                Ok(())
+            }
+            Statement::Step {
+                second,
+                name,
+                action,
+            } => self.step(second, name, action),
+        }
     }
-}
 
-// Prints what a set's lists tell the probers.
-fn lists(rt: &HostRuntime, search: &Search, name: &str) -> Result<(), Undone> {
-    let board = search.board(rt.alloc(), name)?;
-    print!(rt; "{board}")?;
-    Ok(())
-}
+    fn step(&mut self, second: u32, name: &str, action: Action) -> Result<(), Undone> {
+        let event = self.search.act(second, name, &action)?;
+        let time = Clock(second);
+        println!(self.rt; "{time} {name}: {event}")?;
+        match event {
+            Event::Listed => self.lists(name),
+            _ => Ok(()),
+        }
+    }
 
-// The end of a search: the leader reads the lists, and the season gets its lines.
-fn ending(rt: &HostRuntime, search: &Search, season: &mut String) -> Result<(), Undone> {
-    let leader = search.leader()?;
-    println!(rt; "the search ends; {leader} lists")?;
-    lists(rt, search, leader)?;
-    search.season(rt.alloc(), season)?;
-    Ok(())
+    // Prints what a set's lists tell the probers.
+    fn lists(&self, name: &str) -> Result<(), Undone> {
+        let board = self.search.board(name)?;
+        print!(self.rt; "{board}")?;
+        Ok(())
+    }
+
+    // The end of a search: the leader reads the lists, and the season gets its lines.
+    fn ending(&self, season: &mut String) -> Result<(), Undone> {
+        let leader = self.search.leader()?;
+        println!(self.rt; "the search ends; {leader} lists")?;
+        self.lists(leader)?;
+        self.search.season(season)?;
+        Ok(())
+    }
 }

@@ -19,7 +19,7 @@ mod tests {
                 Ok(String::new(heap))
             }
             Statement::Set { role, name, cells } => {
-                let event = search.declare(heap, role, name, cells)?;
+                let event = search.declare(role, name, cells)?;
                 Ok(format!(in heap; "{event}")?)
             }
             Statement::Step {
@@ -27,7 +27,7 @@ mod tests {
                 name,
                 action,
             } => {
-                let event = search.act(heap, second, name, &action)?;
+                let event = search.act(second, name, &action)?;
                 Ok(format!(in heap; "{event}")?)
             }
         }

@@ -26,7 +26,7 @@ const FILES: [&str; 4] = [
 
 #[derive(Clone, Copy, Default)]
 struct Total {
-    vectors: u64,
+    vectors: usize,
     values: u64,
 }
 
@@ -62,9 +62,9 @@ fn run_file(rt: &HostRuntime, file: &str, total: &mut Total) -> anyhow::Result<(
     }
     for trial in trials.iter() {
         println!(rt; "{trial}")?;
-        total.vectors = total.vectors.saturating_add(1);
         total.values = total.values.saturating_add(trial.values());
     }
+    total.vectors = total.vectors.saturating_add(trials.len());
     Ok(())
 }
 

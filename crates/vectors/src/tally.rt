@@ -6,22 +6,32 @@ use std::alloc::{AllocError, Global};
 use std::collections::BTreeMap;
 use std::fmt;
 
+const KINDS: [Value; 7] = [
+    Value::Schedule,
+    Value::Word,
+    Value::RoundKey,
+    Value::State(Way::Forth),
+    Value::State(Way::Back),
+    Value::Answer(Way::Forth),
+    Value::Answer(Way::Back),
+];
+
+// A count for each kind from the beginning, so that counting can't fail.
 #[derive(Drop)]
 pub struct Tally {
     counts: BTreeMap<Value, u64>,
 }
 
 impl Tally {
-    pub fn new(heap: Global) -> Tally {
-        Tally {
-            counts: BTreeMap::new(heap),
-        }
+    pub fn new(heap: Global) -> Result<Tally, AllocError> {
+        let counts = KINDS.iter().map(|value| (*value, 0)).collect(heap)?;
+        Ok(Tally { counts })
     }
 
-    pub fn count(&mut self, value: Value) -> Result<(), AllocError> {
-        let count = self.counts.entry(value)?.or_insert(0);
-        *count = count.saturating_add(1);
-        Ok(())
+    pub fn count(&mut self, value: Value) {
+        if let Some(count) = self.counts.get_mut(&value) {
+            *count = count.saturating_add(1);
+        }
     }
 
     // Compares a value with the one that is due, and counts it where they are equal.
@@ -33,7 +43,7 @@ impl Tally {
         due: &[u8],
     ) -> Result<(), Fault> {
         hold(heap, value, found, due)?;
-        self.count(value)?;
+        self.count(value);
         Ok(())
     }
 
@@ -45,6 +55,7 @@ impl Tally {
     }
 }
 
+// The words of a count; `Value`'s own words are those of one.
 fn plural(value: Value) -> &'static str {
     match value {
         Value::Schedule => "schedule",
@@ -59,7 +70,8 @@ fn plural(value: Value) -> &'static str {
 
 impl fmt::Display for Tally {
     fn fmt<W: fmt::Write>(&self, f: &mut fmt::Formatter<W>) -> fmt::Result {
-        for (i, (value, count)) in self.counts.iter().enumerate() {
+        let counted = self.counts.iter().filter(|(_, count)| **count > 0);
+        for (i, (value, count)) in counted.enumerate() {
             if i > 0 {
                 f.write_str(", ")?;
             }

@@ -14,6 +14,7 @@ pub struct Trial {
     name: String,
     // before the key is given, that of no bytes, so that a call is refused as for such a key
     keyed: Keyed,
+    // of no bytes before they are given, which no cipher takes either
     text: Vec<u8>,
     state: Vec<u8>,
     tally: Tally,
@@ -31,7 +32,7 @@ impl Trial {
             keyed,
             text: Vec::new(heap),
             state: Vec::new(heap),
-            tally: Tally::new(heap),
+            tally: Tally::new(heap)?,
         })
     }
 
@@ -47,9 +48,9 @@ impl Trial {
     fn hold_answer(&mut self, heap: Global, due: &[u8]) -> Result<(), Fault> {
         let text = self.text.as_slice();
         self.keyed.answer(heap, Way::Forth, text, due)?;
-        self.tally.count(Value::Answer(Way::Forth))?;
+        self.tally.count(Value::Answer(Way::Forth));
         self.keyed.answer(heap, Way::Back, due, text)?;
-        self.tally.count(Value::Answer(Way::Back))?;
+        self.tally.count(Value::Answer(Way::Back));
         Ok(())
     }
 
