@@ -73,7 +73,7 @@ impl From<KeyFault> for Refusal {
 }
 
 impl Refusal {
-    // The number of the reason.
+    // The number of the reason. A match and no cast: a key's fault stands in its reason.
     pub fn number(&self) -> u8
         ensures { result ≡ numbered self.now }
     {
