@@ -32,10 +32,10 @@ pub fn parse_hex(heap: Global, text: &str) -> Result<Vec<u8>, Fault>
     let (pairs, []) = text.as_bytes().as_chunks::<2>() else {
         return Err(Fault::Form("two digits for each byte"));
     };
-    let mut bytes = Vec::new(heap);
-    for [high, low] in pairs {
-        let b = byte(*high, *low).ok_or(Fault::Form("hexadecimal digits in capitals"))?;
-        bytes.push(b)?;
-    }
-    Ok(bytes)
+    pairs
+        .iter()
+        .map(|[high, low]| {
+            byte(*high, *low).ok_or(Fault::Form("hexadecimal digits in capitals"))
+        })
+        .try_collect(heap)
 }

@@ -31,19 +31,14 @@ impl Board {
 }
 
 // The lists of a set that have records.
-// A loop: a chain over results would sort what is empty from what failed, and is no shorter.
 pub(super) fn lists(heap: Global, set: &Transceiver) -> Result<Vec<Listed>, AllocError> {
-    let mut all = Vec::new(heap);
-    for list in 0..LISTS {
-        let records = whole(heap, set, list)?;
-        if !records.is_empty() {
-            all.push(Listed { list, records })?;
-        }
-    }
-    Ok(all)
+    (0..LISTS)
+        .filter(|list| set.count(*list) > 0)
+        .map(|list| whole(heap, set, list).map(|records| Listed { list, records }))
+        .try_collect(heap)
 }
 
-// A whole list of a set. Every list that is asked for is there, so that what would be refused is told as empty.
+// A whole list of a set. Every list that is asked for is there; what would be refused is told as empty.
 fn whole(heap: Global, set: &Transceiver, list: usize) -> Result<Vec<SignalRecord>, AllocError> {
     match set.whole(list) {
         Ok(records) => Vec::from_slice(heap, records.as_slice()),

@@ -34,7 +34,7 @@ pub enum Wrong {
 }
 
 impl Asked {
-    // Reads the words after the program's own name.
+    // Reads the words after the program's own name. Not by crate clap, which tells what is wrong in words of its own.
     pub fn read(heap: Global, words: &[String]) -> Result<Asked, Wrong> {
         let mut files = Vec::new(heap);
         let mut season = None;

@@ -8,7 +8,7 @@ use thiserror::Error;
 // The program stops before its end. What is wrong has then been told.
 pub struct Stop;
 
-// By hand: the error's words can't be printed either, and a derive would ask for words of this one.
+// By hand: the derive keeps the error in a field, and this has none.
 impl From<io::Error> for Stop {
     fn from(_e: io::Error) -> Stop {
         Stop

@@ -8,7 +8,7 @@ ghost use Rattle.signal.specs.Figures.{Figure, DistanceText, decimetres, TimeTex
 // A figure has at most this many digits, so that it fits 64 bits in every base up to 16.
 const MOST_DIGITS: usize = 15;
 
-// The number that a text of digits writes.
+// The number that a text of digits writes. Not `u64::from_str_radix`: it reads a plus before them too.
 fn digits(text: &[u8], base: u32) -> Option<u64>
     requires { (2 ≤ base) × (base ≤ 16) }
     ensures value { SomeIff result (Figure base text.now) (digits_value base text.now) }

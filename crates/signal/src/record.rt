@@ -1,6 +1,8 @@
 // What a set keeps of one beacon heard once: 11 bytes of figures.
 ghost use Rattle.std.specs.Prelude.{◌≡◌, if◌then◌else◌, nat_lt};
 
+use std::cmp;
+
 // A cell has the default before its first record.
 #[derive(Clone, Copy, PartialEq, Eq, Default, Debug)]
 pub struct SignalRecord {
@@ -18,10 +20,6 @@ impl SignalRecord {
     pub fn nearer(self, other: SignalRecord) -> SignalRecord
         ensures { result ≡ (if nat_lt other.distance self.distance then other else self) }
     {
-        if other.distance < self.distance {
-            other
-        } else {
-            self
-        }
+        cmp::min_by_key(self, other, |heard| heard.distance)
     }
 }
