@@ -2,7 +2,7 @@
 // Promises each step and run of rounds as the standard defines it.
 // Rests on products of bytes (field) and on XOR and substitution (block).
 ghost use Rattle.std.specs.Prelude.{◌≡◌, ◌+◌, ◌-◌, ◌*◌, ◌/◌, ◌≤◌, length};
-ghost use Rattle.aes.specs.Steps.{sub_bytes, inv_sub_bytes, shift_rows, inv_shift_rows, mix_columns, inv_mix_columns, add_round_key};
+ghost use Rattle.aes.specs.Steps.{moved, from_past, sub_bytes, inv_sub_bytes, shift_rows, inv_shift_rows, mix_columns, inv_mix_columns, add_round_key};
 ghost use Rattle.aes.specs.Cipher.{round as one_round, last_round, inv_round, inv_last_round, encipher, decipher};
 
 use crate::tables;
@@ -24,18 +24,25 @@ pub fn inv_sub_bytes(block: &mut [u8; 16])
     substitute(&tables::S_BOX_INVERSE, block);
 }
 
+// Row r moved `by` times r places to the left, counted round.
+fn turn_rows(by: u8, block: &mut [u8; 16])
+    ensures { block.new ≡ moved (from_past by) block.old }
+{
+    let old = *block;
+    *block = array::from_fn(|i| old[i % 4 + 4 * ((i / 4 + usize::from(by) * (i % 4)) % 4)]);
+}
+
 pub fn shift_rows(block: &mut [u8; 16])
     ensures { block.new ≡ shift_rows block.old }
 {
-    let old = *block;
-    *block = array::from_fn(|i| old[i % 4 + 4 * ((i / 4 + i % 4) % 4)]);
+    turn_rows(1, block);
 }
 
+// Three places to the left are one to the right.
 pub fn inv_shift_rows(block: &mut [u8; 16])
     ensures { block.new ≡ inv_shift_rows block.old }
 {
-    let old = *block;
-    *block = array::from_fn(|i| old[i % 4 + 4 * ((i / 4 + 4 - i % 4) % 4)]);
+    turn_rows(3, block);
 }
 
 pub fn mix_columns(block: &mut [u8; 16])

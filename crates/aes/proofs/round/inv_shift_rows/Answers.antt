@@ -1,10 +1,6 @@
-use Rattle.std.proofs.Common.{◌≡◌, slice_index, refl, rules}
-use Rattle.aes.specs.Steps.{moved, from_left, inv_shift_rows}
-use Rattle.aes.proofs.Filled.{filled}
+use Rattle.aes.specs.Steps.{moved, inv_shift_rows}
 use Rattle.aes.proofs.round.inv_shift_rows.Goals as goal
 
 pub returns : goal.returns
 unfolding inv_shift_rows moved
-returns c =
-    let b = c.args.block.now in
-    filled _ (λ f. f.0.now ≡ b) (λ i. slice_index b (from_left i)) (λ f i y q p called. search rules) 16 _ c.from_fn.result refl c.from_fn.ensures.items
+returns c = c.turn_rows.ensures
