@@ -15,11 +15,7 @@ const SHORT_KEY: usize = 6;
 fn power_of_x(n: usize) -> u8
     ensures { result ≡ x_power n }
 {
-    let mut power = 1u8;
-    for _i in 0..n {
-        power = field::times_x(POLY, power);
-    }
-    power
+    (0..n).fold(1, |power, _| field::times_x(POLY, power))
 }
 
 // The number of a key's words, by which the expansion counts: never 0.
