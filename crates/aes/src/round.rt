@@ -24,7 +24,7 @@ pub fn inv_sub_bytes(block: &mut [u8; 16])
     substitute(&tables::S_BOX_INVERSE, block);
 }
 
-// Row r moved `by` times r places to the left, counted round.
+// Row r moved `by` times r places to the left, counted round; `by` is a byte, so that no product wraps.
 fn turn_rows(by: u8, block: &mut [u8; 16])
     ensures { block.new ≡ moved (from_past by) block.old }
 {
@@ -62,6 +62,8 @@ pub fn add_round_key(block: &mut [u8; 16], key: &[u8; 16])
 {
     xor_whole(block, key);
 }
+
+// Each round has an inverse with other steps in another order: one body for both would branch at every line.
 
 fn round(key: &[u8; 16], block: &mut [u8; 16])
     ensures { block.new ≡ one_round key.now block.old }
@@ -113,6 +115,7 @@ pub fn run_rounds(schedule: &[u8], block: &mut [u8; 16])
 }
 
 // The same undone, from the last round key to the first.
+// Not one function of both: it would take each end, each round and the order of the keys, and share a loop's frame alone.
 pub fn undo_rounds(schedule: &[u8], block: &mut [u8; 16])
     requires { 2 ≤ length schedule.now / 16 }
     ensures { block.new ≡ decipher (length schedule.now / 16 - 1) schedule.now block.old }
