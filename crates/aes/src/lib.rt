@@ -76,7 +76,7 @@ fn rounds_for(len: usize) -> Option<usize>
 }
 
 // The steps of a round. A caller names one as data, so each direction below matches on it;
-// one match over step and direction would have as many arms, and the direction besides.
+// one match over step and direction would save a single arm, and take the direction besides.
 #[derive(Clone, Copy, PartialEq, Eq, Debug)]
 pub enum Step {
     SubBytes,

@@ -28,6 +28,17 @@ overflow_sub-result g c =
     let a = told_accepted m c.args.len c.in_ok-need.field-0 c.need.result c.need.ensures c.in_ok-need.was in
     omega (arith, a.long, c.white-2.ensures.is)
 
+pub returns-clause-whole : goal.returns-clause-whole
+returns-clause-whole g c =
+    let k = c.args.self.now.inner in
+    let m = g.K.Kit.meaning k in
+    let n = c.in_ok-need.field-0 in
+    let a = told_accepted m c.args.len n c.need.result c.need.ensures c.in_ok-need.was in
+    let size = cells_due n (length c.args.schedule.now) c.in_ok-fitting.ensures in (
+      c.split_at-2.ensures.front_len,
+      omega (arith, room m (g.met.K.Kit.sound k) c.args.len n a, size, c.white.ensures.is, c.width_of.ensures.is, c.if-block-width_of.false, c.split_at.ensures.back_len, c.split_at-2.ensures.back_len),
+    )
+
 pub returns-clause-parts : goal.returns-clause-parts
 unfolding inner block_a block_b
 returns-clause-parts g c =
