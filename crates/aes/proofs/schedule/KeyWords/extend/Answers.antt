@@ -26,11 +26,3 @@ loop-i-preserved c =
       take-put_mid (i * 4) (i * 4 + 4 - i * 4) out w ((i + 1) * 4) (omega arith) (omega arith)
           ∙ words_more nk i (take (nk * 4) c.args.out.now) (take (i * 4) out) w c.loop-i.auto.i c.loop-i.invariant.1 is,
     )
-
-pub returns : goal.returns
-returns c =
-    let nk = c.args.self.nk in
-    let key = take (nk * 4) c.args.out.now in
-    let i = c.loop-i.i in
-    let e : i ≡ length c.args.out.now / 4 = omega arith in
-    sym (take_all (i * 4) c.loop-i.out (omega arith)) ∙ c.loop-i.invariant.1 ∙ ap (λ n. words nk (n - nk) key) e
