@@ -22,9 +22,9 @@ returns-in_err-decipher g c =
     p.rest p.inner.now p.b.now c.xor_whole.new.block ensured.parts.rest ensured.parts.inner ensured.parts.b c.xor_whole.ensures in
     absurd (none_due c.in_err-decipher.ensures.outcome none)
 
-pub returns : goal.returns
+pub returns-clause-written : goal.returns-clause-written
 unfolding dec
-returns g c =
+returns-clause-written g c =
     let k = c.args.self.now.inner in
     let m = g.K.Kit.meaning k in
     let sound = g.met.K.Kit.sound k in
@@ -38,4 +38,4 @@ returns g c =
     let out = comes_out m sound len s x h m.dec (λ y hy. sound.deciphers _ _ y (fits_below m sound len s x h y hy)) (block_b m.width s) (block_a m.width s) (whole_b m sound len s x h) (whole_a m sound len s x h)
     p.rest p.inner.now p.b.now c.xor_whole.new.block ensured.parts.rest ensured.parts.inner ensured.parts.b c.xor_whole.ensures
     p.a.now c.decipher.new.block c.xor_whole-2.new.block ensured.parts.a c.decipher.ensures.written c.xor_whole-2.ensures in
-    record { outcome = ensured.outcome; written = out ∙ sym (deciphered_fits (whitened m) len s x h) }
+    out ∙ sym (deciphered_fits (whitened m) len s x h)
