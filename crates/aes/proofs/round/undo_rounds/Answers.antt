@@ -1,5 +1,5 @@
-use Rattle.std.proofs.Common.{◌≡◌, ℕ, ◌<◌, ◌+◌, ◌-◌, ◌/◌, [], length, take, drop, slice_index_or, sym, ap, ◌∙◌, ap₂, arith}
-use Rattle.std.proofs.lemmas.List.{length-take-le, length-drop, length_push}
+use Rattle.std.proofs.Common.{◌≡◌, ℕ, ◌<◌, ◌+◌, ◌-◌, ◌/◌, [], length, drop, slice_index_or, sym, ap, ◌∙◌, ap₂, arith}
+use Rattle.std.proofs.lemmas.List.{length_push}
 use Rattle.aes.specs.Steps.{add_round_key}
 use Rattle.aes.specs.Cipher.{round_key, inv_round, inv_rounds, inv_last_round, decipher}
 use Rattle.aes.specs.CipherLemmas.{inv_rounds_none, inv_rounds_more}
