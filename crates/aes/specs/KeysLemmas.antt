@@ -1,10 +1,10 @@
 -- The key expansion: its blocks, the rule of its words, and the code that writes it. Assumes nothing.
 use Rattle.std.specs.Prelude.{◌≡◌, ℕ, zero, suc, ◌+◌, ◌-◌, ◌*◌, ◌/◌, ◌%◌, ◌<◌, ◌≤◌, Bool, true, false, cond, ◌&&◌, ◌⊎◌, List, [], ◌∷◌, ◌++◌, length, take, drop, ◌==◌, ◌≢◌, nat_lt, refl}
+use Rattle.std.specs.List.{fold}
 use Rattle.std.proofs.Math.Path.{sym, ap, ap₂}
 use Rattle.std.proofs.Common.{◌∙◌, subst}
 use Rattle.std.proofs.Math.Logic.{inl, inr}
 use native.Mathlib.Omega.{arith}
-use Rattle.std.proofs.Math.Nat.{div-eq-sub-div}
 use Rattle.std.proofs.lemmas.List.{length-append, length-drop, length-take-le, take_all, take-append-le, drop_at, drop-append-le}
 use Rattle.std.proofs.lemmas.Bool.{cases_lt, eq-eqb, ne_eqb, lt-ltb, le-ltb, cond-true, cond-false, and_from, and_left, and_right}
 use Rattle.block.specs.Bytes.{Block, xor}
@@ -135,13 +135,11 @@ expands nk r key some l h =
 
 -- ---- the code
 
-pub x_power_none : x_power 0 ≡ 1
+-- times x once for each item of a list
+pub times_each : (k : ℕ) (xs : List ℕ) → fold (λ p _. times_x aes_poly p) (x_power k) xs ≡ x_power (length xs + k)
 unfolding x_power
-x_power_none = refl
-
-pub x_power_more : (n p : ℕ) → p ≡ x_power n → times_x aes_poly p ≡ x_power (n + 1)
-unfolding x_power
-x_power_more n p e = ap (times_x aes_poly) e ∙ ap x_power (let f : suc n ≡ n + 1 = omega arith in f)
+times_each k [] = ap x_power (let e : k ≡ 0 + k = omega arith in e)
+times_each k (x ∷ xs) = times_each (suc k) xs ∙ ap x_power (let e : length xs + suc k ≡ suc (length xs) + k = omega arith in e)
 
 pub words_none : (nk : ℕ) (key : List ℕ) → words nk 0 key ≡ key
 unfolding words

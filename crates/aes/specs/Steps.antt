@@ -29,6 +29,10 @@ inv_sub_bytes b = sub s_box_inverse b
 unfoldable pub moved : (ℕ → ℕ) → List ℕ → List ℕ
 moved from b = map (λ i. slice_index b (from i)) (range_with_len 0 16)
 
+-- row r moves `by` times r places to the left, counted round
+abbrev pub from_past : ℕ → ℕ → ℕ
+from_past by i = at (row i) ((column i + by * row i) % 4)
+
 -- ShiftRows: row r moves r places to the left, counted round
 abbrev pub from_right : ℕ → ℕ
 from_right i = at (row i) ((column i + row i) % 4)

@@ -5,14 +5,14 @@
 
 ghost use Rattle.std.specs.Prelude.{◌≡◌, ◌+◌, ◌*◌, length, IfOk, Some};
 ghost use Rattle.refusal.specs.Checks.{first, refusal};
-ghost use Rattle.kit.specs.Calls.{expand_checks, unless};
+ghost use Rattle.kit.specs.Calls.{unless};
 ghost use Rattle.aes.specs.Tables.{Tables};
 ghost use Rattle.aes.specs.Trace.{forward, backward, step_checks, StepsMakeRounds};
-ghost use Rattle.aes.specs.Versions.{rounds as rounds_of, need as needed, aes, KeyExpansion};
+ghost use Rattle.aes.specs.Versions.{rounds as rounds_of, aes, KeyExpansion};
 ghost use Rattle.aes.specs.Sound;
 ghost use Rattle.std.proofs.Common.{rules};
 
-use kit::{Kit, Narrow};
+use kit::{Kit, Narrow, fitting};
 use refusal::{KeyFault, Refusal};
 use round::{
     add_round_key, inv_mix_columns, inv_shift_rows, inv_sub_bytes, mix_columns, run_rounds,
@@ -43,20 +43,20 @@ impl Kit for Aes {
     }
 
     fn expand(&self, key: &[u8], schedule: &mut [u8]) -> Result<(), Refusal> {
-        fitting(key.len(), schedule.len())?;
+        fitting(self.need(key.len())?, schedule.len())?;
         write_schedule(key, schedule);
         Ok(())
     }
 
     fn encipher(&self, len: usize, schedule: &[u8], block: &mut [u8]) -> Result<(), Refusal> {
-        fitting(len, schedule.len())?;
+        fitting(self.need(len)?, schedule.len())?;
         let block = block.as_mut_array().ok_or(Refusal::Block)?;
         run_rounds(schedule, block);
         Ok(())
     }
 
     fn decipher(&self, len: usize, schedule: &[u8], block: &mut [u8]) -> Result<(), Refusal> {
-        fitting(len, schedule.len())?;
+        fitting(self.need(len)?, schedule.len())?;
         let block = block.as_mut_array().ok_or(Refusal::Block)?;
         undo_rounds(schedule, block);
         Ok(())
@@ -75,14 +75,8 @@ fn rounds_for(len: usize) -> Option<usize>
     }
 }
 
-// Whether a schedule of so many bytes fits a key of `len` bytes.
-fn fitting(len: usize, schedule: usize) -> Result<(), Refusal>
-    ensures { refusal result ≡ first (expand_checks (needed len) schedule) }
-{
-    kit::fitting(Aes.need(len)?, schedule)
-}
-
-// The steps of a round.
+// The steps of a round. A caller names one as data, so each direction below matches on it;
+// one match over step and direction would save a single arm, and take the direction besides.
 #[derive(Clone, Copy, PartialEq, Eq, Debug)]
 pub enum Step {
     SubBytes,

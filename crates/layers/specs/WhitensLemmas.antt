@@ -5,7 +5,7 @@ use Rattle.std.proofs.lemmas.Bool.{lt-ltb, le-ltb}
 use Rattle.refusal.specs.declared.KeyFault.{KeyFault}
 use Rattle.block.specs.Bytes.{Bytes, Block, xor}
 use Rattle.block.proofs.Parts.{bytes_append, bytes_take, bytes_drop}
-use Rattle.block.proofs.Xor.{cancels, block_xor, xor_whole}
+use Rattle.block.proofs.Xor.{cancels, block_xor}
 use Rattle.refusal.specs.declared.Refusal.{Refusal}
 use Rattle.kit.specs.Meaning.{Meaning, Sized, Sound}
 use Rattle.kit.specs.Calls.{told, unless, expand_refusal, cipher_refusal, expanded}
@@ -129,9 +129,9 @@ module _ (m : Meaning) (sound : Sound m) (len : ℕ) (s x : List ℕ) (h : Sized
   -- E or D of the kit below, between two blocks that are XORed on its way in and on its way out
   module _ (f : ℕ → List ℕ → List ℕ → List ℕ) (keep : (y : List ℕ) → Block m.width y → Block m.width (f (len - white m) (inner m.width s) y))
       (u v : List ℕ) (hu : Block m.width u) (hv : Block m.width v)
-      (l : ℕ) (i a y : List ℕ) (el : l ≡ len - white m) (ei : i ≡ inner m.width s) (ea : a ≡ u) (ey : y ≡ take (length x) (xor x a)) where
+      (l : ℕ) (i a y : List ℕ) (el : l ≡ len - white m) (ei : i ≡ inner m.width s) (ea : a ≡ u) (ey : y ≡ xor x a) where
     in_is : y ≡ xor x u
-    in_is = ey ∙ ap (λ t. take (length x) (xor x t)) ea ∙ xor_whole x u (h.block.size ∙ sym hu.size)
+    in_is = ey ∙ ap (xor x) ea
 
     in_fits : Sized m (len - white m) (inner m.width s) (xor x u)
     in_fits = fits_below (xor x u) (block_xor m.width x u h.block hu)
@@ -146,13 +146,12 @@ module _ (m : Meaning) (sound : Sound m) (len : ℕ) (s x : List ℕ) (h : Sized
     passes = same₃ (cipher_refusal m) el ei in_is ∙ in_passes
 
     -- what comes out
-    pub comes_out : (b z r : List ℕ) → b ≡ v → z ≡ unless (cipher_refusal m l i y) (f l i y) y → r ≡ take (length z) (xor z b)
+    pub comes_out : (b z r : List ℕ) → b ≡ v → z ≡ unless (cipher_refusal m l i y) (f l i y) y → r ≡ xor z b
         → r ≡ xor (f (len - white m) (inner m.width s) (xor x u)) v
     comes_out b z r eb ez er =
         let out = f (len - white m) (inner m.width s) (xor x u) in
-        let lo : length out ≡ length v = (keep (xor x u) in_fits.block).size ∙ sym hv.size in
         let is : z ≡ out = ez ∙ ap (λ t. unless t (f l i y) y) passes ∙ same₃ f el ei in_is in
-        er ∙ ap₂ (λ p q. take (length p) (xor p q)) is eb ∙ xor_whole out v lo
+        er ∙ ap₂ xor is eb
 
 block_schedule : (m : Meaning) → Sound m → (n : ℕ) (key : List ℕ) → need m (length key) ≡ Ok n → Bytes key → Block (16 * n) (schedule m key)
 unfolding schedule inner

@@ -9,6 +9,7 @@ ghost use Rattle.layers.specs.WhitensLemmas.{sound_whitened};
 ghost use Rattle.std.proofs.Common.{rules};
 
 use crate::{bounded, risen};
+use block::xor_whole;
 use kit::{Kit, fitting, width_of};
 use refusal::{KeyFault, Refusal};
 
@@ -18,7 +19,8 @@ pub struct Whitening<K> {
     inner: K,
 }
 
-// A schedule in its parts, with the key length for the kit below.
+// A schedule in its parts, with the key length for the kit below. Not one type with the cascade's parts:
+// there stand two schedules, here one and two blocks, and each has a name of its own.
 #[derive(Clone, Copy)]
 struct Parts<'a> {
     rest: usize,
@@ -40,6 +42,7 @@ impl<K: Kit> Whitening<K> {
     fn parts<'a>(&self, len: usize, schedule: &'a [u8], block: usize) -> Result<Parts<'a>, Refusal>
         ensures outcome { refusal result ≡ due_of_block (whitened (K.Kit.meaning self.now.inner)) len (length schedule.now) block }
         ensures parts { IfOk result (λ p. Parted (K.Kit.meaning self.now.inner).width len schedule.now p.rest p.inner.now p.a.now p.b.now) }
+        ensures whole { IfOk result (λ p. (length p.a.now ≡ block) × (length p.b.now ≡ block)) }
     {
         fitting(self.need(len)?, schedule.len())?;
         if block != width_of(&self.inner) {
@@ -91,17 +94,17 @@ impl<K: Kit> Kit for Whitening<K> {
 
     fn encipher(&self, len: usize, schedule: &[u8], block: &mut [u8]) -> Result<(), Refusal> {
         let parts = self.parts(len, schedule, block.len())?;
-        block::xor_into(block, parts.a);
+        xor_whole(block, parts.a);
         self.inner.encipher(parts.rest, parts.inner, block)?;
-        block::xor_into(block, parts.b);
+        xor_whole(block, parts.b);
         Ok(())
     }
 
     fn decipher(&self, len: usize, schedule: &[u8], block: &mut [u8]) -> Result<(), Refusal> {
         let parts = self.parts(len, schedule, block.len())?;
-        block::xor_into(block, parts.b);
+        xor_whole(block, parts.b);
         self.inner.decipher(parts.rest, parts.inner, block)?;
-        block::xor_into(block, parts.a);
+        xor_whole(block, parts.a);
         Ok(())
     }
 }

@@ -1,22 +1,10 @@
-use Rattle.std.proofs.Common.{◌≡◌, ℕ, ◌<◌, ◌+◌, ◌-◌, ◌/◌, [], length, take, drop, slice_index_or, sym, ap, ◌∙◌, ap₂, arith}
-use Rattle.std.proofs.lemmas.List.{length-take-le, length-drop, length_push}
+use Rattle.std.proofs.Common.{◌≡◌, ℕ, ◌<◌, ◌+◌, ◌-◌, ◌/◌, [], length, drop, slice_index_or, sym, ap, ◌∙◌, ap₂, arith}
+use Rattle.std.proofs.lemmas.List.{length_push}
 use Rattle.aes.specs.Steps.{add_round_key}
 use Rattle.aes.specs.Cipher.{round_key, inv_round, inv_rounds, inv_last_round, decipher}
 use Rattle.aes.specs.CipherLemmas.{inv_rounds_none, inv_rounds_more}
 use Rattle.aes.proofs.Chunks.{chunk_is, later_chunk, part_less}
 use Rattle.aes.proofs.round.undo_rounds.Goals as goal
-
-pub loop-key-init : goal.loop-key-init
-loop-key-init c =
-    let keys = c.as_chunks.result.0.now in
-    let m = length keys - 1 - 1 in
-    let rest = c.into_iter-key-iterator.result.iter.rest.now in
-    let is : rest ≡ take m (drop 1 keys) = ap (λ i. i.iter.rest.now) c.into_iter-key-iterator.ensures.into_iter_gives ∙ ap (λ i. i.rest.now) c.rev-key-items.ensures.source ∙ c.iter.ensures.rest in
-    let long : length rest ≡ m = ap length is ∙ length-take-le m (drop 1 keys) (omega (arith, length-drop 1 keys)) in (
-      omega (arith, long, c.requires, c.as_chunks.ensures.front_len),
-      is ∙ ap (λ n. take n (drop 1 keys)) (sym long),
-      ap (λ n. inv_rounds n c.args.schedule.now c.add_round_key.new.block) long,
-    )
 
 pub loop-key-preserved : goal.loop-key-preserved
 loop-key-preserved c =

@@ -1,13 +1,18 @@
-use Rattle.std.proofs.Common.{◌≡◌, sym, ap, ◌∙◌, arith}
+use Rattle.std.proofs.Common.{◌≡◌, ◌+◌, length, refl, ap, ◌∙◌, arith, rules}
+use Rattle.std.specs.List.{range_with_len}
+use Rattle.std.proofs.lemmas.List.FromFn.{length-range_with_len}
+use Rattle.std.proofs.lemmas.Iterator.{YieldsList-from_range}
+use Rattle.std.proofs.lemmas.Iterator.Consumers.{fold_from_yields_List}
+use Rattle.field.specs.Byte.{times_x}
+use Rattle.field.specs.Known.{aes_poly}
 use Rattle.aes.specs.Keys.{x_power}
-use Rattle.aes.specs.KeysLemmas.{x_power_none, x_power_more}
+use Rattle.aes.specs.KeysLemmas.{times_each}
 use Rattle.aes.proofs.schedule.power_of_x.Goals as goal
 
-pub loop-i-init : goal.loop-i-init
-loop-i-init c = sym x_power_none
-
-pub loop-i-preserved : goal.loop-i-preserved
-loop-i-preserved c = c.times_x-power.ensures ∙ x_power_more c.loop-i._i c.loop-i.power c.loop-i.invariant
-
 pub returns : goal.returns
-returns c = let e : c.loop-i._i ≡ c.args.n = omega arith in c.loop-i.invariant ∙ ap x_power e
+unfolding x_power
+returns c =
+    let n = c.args.n in
+    let long : length (range_with_len 0 n) + 0 ≡ n = omega (arith, length-range_with_len 0 n) in
+    fold_from_yields_List _ (λ p _. times_x aes_poly p) 1 c.fold.result c.fold.ensures.ran (YieldsList-from_range 0 n n refl (omega arith)) (λ a x b q h. search rules)
+    ∙ times_each 0 (range_with_len 0 n) ∙ ap x_power long

@@ -5,7 +5,7 @@ use Rattle.refusal.specs.Faults.{here}
 use Rattle.kit.specs.Calls.{told}
 use Rattle.kit.proofs.Calls.{told_ok}
 use Rattle.layers.specs.Depth.{risen, both}
-use Rattle.layers.specs.AnswersLemmas.{risen_ok, both_refused, both_refused_second}
+use Rattle.layers.specs.AnswersLemmas.{both_refused, both_refused_second}
 use Rattle.layers.specs.CascadesLemmas.{need_short, need_long}
 use Rattle.layers.proofs.cascade.CascadeKit.need.Goals as goal
 
@@ -45,20 +45,6 @@ returns-in_err-others g c =
     ∙ sym (ap told (need_long self.split m n len long)
     ∙ both_refused_second len ours (risen (m.need self.split)) (risen (n.need (len - self.split))) _
     (told_ok (risen (m.need self.split)) ours (sym rises_first ∙ c.in_ok-ours.was)) (sym rises ∙ c.in_err-others.was))
-
-pub overflow_add-ours : goal.overflow_add-ours
-overflow_add-ours g c =
-    let self = c.args.self.now in
-    let m = g.A.Kit.meaning self.first in
-    let n = g.B.Kit.meaning self.second in
-    let ours = c.in_ok-ours.ours in
-    let others = c.in_ok-others.others in
-    let l = c.in_ok-rest.rest in
-    let rises_first = c.risen.ensures (m.need self.split) c.need.ensures in
-    let rises = c.risen-2.ensures (n.need l) c.need-2.ensures in
-    let few : ours ≤ 96 = ((g.met.A.Kit.sound self.first).cells self.split ours (risen_ok (m.need self.split) ours (told_ok (risen (m.need self.split)) ours (sym rises_first ∙ c.in_ok-ours.was)))).1 in
-    let more : others ≤ 96 = ((g.met.B.Kit.sound self.second).cells l others (risen_ok (n.need l) others (told_ok (risen (n.need l)) others (sym rises ∙ c.in_ok-others.was)))).1 in
-    search rules
 
 pub returns : goal.returns
 returns g c =

@@ -1,4 +1,4 @@
-use Rattle.std.proofs.Common.{◌-◌, length, take, drop, ap, ◌∙◌, ap₂, arith}
+use Rattle.std.proofs.Common.{◌≡◌, ◌-◌, ◌*◌, length, take, drop, ap, ◌∙◌, ap₂, arith}
 use Rattle.layers.specs.Whitened.{inner, block_a, block_b}
 use Rattle.layers.specs.AnswersLemmas.{cells_due}
 use Rattle.layers.specs.WhitensLemmas.{told_accepted, room}
@@ -27,6 +27,18 @@ overflow_sub-result g c =
     let m = g.K.Kit.meaning c.args.self.now.inner in
     let a = told_accepted m c.args.len c.in_ok-need.field-0 c.need.result c.need.ensures c.in_ok-need.was in
     omega (arith, a.long, c.white-2.ensures.is)
+
+pub returns-clause-whole : goal.returns-clause-whole
+returns-clause-whole g c =
+    let k = c.args.self.now.inner in
+    let m = g.K.Kit.meaning k in
+    let n = c.in_ok-need.field-0 in
+    let a = told_accepted m c.args.len n c.need.result c.need.ensures c.in_ok-need.was in
+    let size = cells_due n (length c.args.schedule.now) c.in_ok-fitting.ensures in
+    let both : length c.split_at.result.1.now ≡ 2 * c.args.block =
+    omega (arith, room m (g.met.K.Kit.sound k) c.args.len n a, size, c.white.ensures.is, c.width_of.ensures.is, c.if-block-width_of.false, c.split_at.ensures.back_len) in
+    let ends = c.split_at-2.ensures in
+    (omega (arith, both, ends.front_len, ends.back_len), omega (arith, both, ends.front_len, ends.back_len))
 
 pub returns-clause-parts : goal.returns-clause-parts
 unfolding inner block_a block_b

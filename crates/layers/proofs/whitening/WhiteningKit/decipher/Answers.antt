@@ -19,12 +19,12 @@ returns-in_err-decipher g c =
     let fit : (i : ℕ) → Fits w8 (get_or c.args.block.now i 0) = λ i. search rules in
     let h = sized_by (whitened m) len s x (bytes_from s (λ i. (c.type_inv.schedule i).fits)) (bytes_from x (λ i. (fit i).fits)) (sym ensured.outcome) in
     let none = passes m sound len s x h m.dec (λ y hy. sound.deciphers _ _ y (fits_below m sound len s x h y hy)) (block_b m.width s) (block_a m.width s) (whole_b m sound len s x h) (whole_a m sound len s x h)
-    p.rest p.inner.now p.b.now c.xor_into.new.block ensured.parts.rest ensured.parts.inner ensured.parts.b c.xor_into.ensures in
+    p.rest p.inner.now p.b.now c.xor_whole.new.block ensured.parts.rest ensured.parts.inner ensured.parts.b c.xor_whole.ensures in
     absurd (none_due c.in_err-decipher.ensures.outcome none)
 
-pub returns : goal.returns
+pub returns-clause-written : goal.returns-clause-written
 unfolding dec
-returns g c =
+returns-clause-written g c =
     let k = c.args.self.now.inner in
     let m = g.K.Kit.meaning k in
     let sound = g.met.K.Kit.sound k in
@@ -36,6 +36,6 @@ returns g c =
     let fit : (i : ℕ) → Fits w8 (get_or c.args.block.now i 0) = λ i. search rules in
     let h = sized_by (whitened m) len s x (bytes_from s (λ i. (c.type_inv.schedule i).fits)) (bytes_from x (λ i. (fit i).fits)) (sym ensured.outcome) in
     let out = comes_out m sound len s x h m.dec (λ y hy. sound.deciphers _ _ y (fits_below m sound len s x h y hy)) (block_b m.width s) (block_a m.width s) (whole_b m sound len s x h) (whole_a m sound len s x h)
-    p.rest p.inner.now p.b.now c.xor_into.new.block ensured.parts.rest ensured.parts.inner ensured.parts.b c.xor_into.ensures
-    p.a.now c.decipher.new.block c.xor_into-2.new.block ensured.parts.a c.decipher.ensures.written c.xor_into-2.ensures in
-    record { outcome = ensured.outcome; written = out ∙ sym (deciphered_fits (whitened m) len s x h) }
+    p.rest p.inner.now p.b.now c.xor_whole.new.block ensured.parts.rest ensured.parts.inner ensured.parts.b c.xor_whole.ensures
+    p.a.now c.decipher.new.block c.xor_whole-2.new.block ensured.parts.a c.decipher.ensures.written c.xor_whole-2.ensures in
+    out ∙ sym (deciphered_fits (whitened m) len s x h)

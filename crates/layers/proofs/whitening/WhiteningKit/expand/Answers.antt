@@ -34,15 +34,6 @@ returns-in_err-expand g c =
     (expand_accepted m key n a c.split_at.result.0.now c.split_at_mut-inner.result.0.now er
     (omega (arith, room m (g.met.K.Kit.sound k) (length key) n a, size, c.white-2.ensures.is, c.split_at_mut-inner.ensures.front_len))))
 
-pub copy_from_slice-requires : goal.copy_from_slice-requires
-copy_from_slice-requires g c =
-    let k = c.args.self.now.inner in
-    let m = g.K.Kit.meaning k in
-    let n = c.in_ok-need.field-0 in
-    let a = told_accepted m (length c.args.key.now) n c.need.result c.need.ensures c.in_ok-need.was in
-    let size = cells_due n (length c.args.schedule.now) c.in_ok-fitting.ensures in
-    omega (arith, room m (g.met.K.Kit.sound k) (length c.args.key.now) n a, size, a.long, c.white.ensures.is, c.white-2.ensures.is, c.split_at.ensures.back_len, c.split_at_mut-inner.ensures.back_len)
-
 pub returns-clause-written : goal.returns-clause-written
 unfolding inner
 returns-clause-written g c =

@@ -6,7 +6,7 @@ use Rattle.kit.specs.Calls.{told}
 use Rattle.kit.proofs.Calls.{told_ok}
 use Rattle.layers.specs.Depth.{risen, bounded, both}
 use Rattle.layers.specs.Whitened.{white, white_cells}
-use Rattle.layers.specs.AnswersLemmas.{risen_ok, both_refused}
+use Rattle.layers.specs.AnswersLemmas.{both_refused}
 use Rattle.layers.specs.WhitensLemmas.{need_short, need_long}
 use Rattle.layers.proofs.whitening.WhiteningKit.need.Goals as goal
 
@@ -30,16 +30,6 @@ returns-in_err-cells g c =
     p.1 ∙ ap Err p.2
     ∙ sym (ap told (need_long m len (omega (arith, long, c.white-white.ensures.is)))
     ∙ both_refused len (risen (m.need (len - white m))) (Ok (white_cells m)) _ (sym rises ∙ c.in_err-cells.was))
-
-pub overflow_add-cells : goal.overflow_add-cells
-overflow_add-cells g c =
-    let k = c.args.self.now.inner in
-    let m = g.K.Kit.meaning k in
-    let n = c.in_ok-cells.cells in
-    let l = c.in_ok-rest.rest in
-    let rises = c.risen.ensures (m.need l) c.need.ensures in
-    let few : n ≤ 96 = ((g.met.K.Kit.sound k).cells l n (risen_ok (m.need l) n (told_ok (risen (m.need l)) n (sym rises ∙ c.in_ok-cells.was)))).1 in
-    search rules
 
 pub returns : goal.returns
 returns g c =

@@ -1,20 +1,20 @@
 use Rattle.std.proofs.Common.{◌≡◌, ◌+◌, ◌-◌, ◌*◌, ◌/◌, length, take, sym, refl, ap, ◌∙◌, arith, rules}
-use Rattle.std.proofs.lemmas.List.{take_all, length-take-le}
+use Rattle.std.proofs.lemmas.List.{length-take-le}
 use Rattle.std.proofs.lemmas.Slice.{take-put_mid}
 use Rattle.aes.specs.Keys.{next, words}
 use Rattle.aes.specs.KeysLemmas.{words_none, words_more}
-use Rattle.aes.proofs.schedule.extend.Goals as goal
+use Rattle.aes.proofs.schedule.KeyWords.extend.Goals as goal
 
 pub loop-i-init : goal.loop-i-init
 loop-i-init c =
-    let nk = c.args.nk in
+    let nk = c.args.self.nk in
     let key = take (nk * 4) c.args.out.now in
     let e : 0 ≡ nk - nk = omega arith in
     (refl, sym (words_none nk key) ∙ ap (λ n. words nk n key) e)
 
 pub loop-i-preserved : goal.loop-i-preserved
 loop-i-preserved c =
-    let nk = c.args.nk in
+    let nk = c.args.self.nk in
     let i = c.loop-i.i in
     let out = c.loop-i.out in
     let w = c.copy_from_slice.new.self in
@@ -26,11 +26,3 @@ loop-i-preserved c =
       take-put_mid (i * 4) (i * 4 + 4 - i * 4) out w ((i + 1) * 4) (omega arith) (omega arith)
           ∙ words_more nk i (take (nk * 4) c.args.out.now) (take (i * 4) out) w c.loop-i.auto.i c.loop-i.invariant.1 is,
     )
-
-pub returns : goal.returns
-returns c =
-    let nk = c.args.nk in
-    let key = take (nk * 4) c.args.out.now in
-    let i = c.loop-i.i in
-    let e : i ≡ length c.args.out.now / 4 = omega arith in
-    sym (take_all (i * 4) c.loop-i.out (omega arith)) ∙ c.loop-i.invariant.1 ∙ ap (λ n. words nk (n - nk) key) e
