@@ -6,6 +6,7 @@ use Rattle.refusal.specs.declared.Refusal.TheVariants.{Block as WrongSize}
 use Rattle.refusal.specs.Checks.{first}
 use Rattle.block.specs.Bytes.{Bytes, Block}
 use Rattle.kit.specs.Calls.{expand_checks}
+use Rattle.kit.proofs.Calls.{cells_due}
 use Rattle.kit.specs.Meaning.{Sized, Sound}
 use Rattle.aes.specs.Cipher.{encipher, decipher}
 use Rattle.aes.specs.Keys.{schedule as round_keys, Expands}
@@ -75,12 +76,8 @@ pub record Fitted (len out : ℕ) : Type 0 where
   pub is : rounds len ≡ Some r
   pub size : out ≡ 16 * (r + 1)
 
-size_due : (p : Bool) → first ((not p, WrongSize) ∷ []) ≡ None → p ≡ true
-size_due true e = refl
-size_due false e = let z : ◌≡◌ {A = ℕ} 0 1 = cc in absurd (omega arith)
-
 fitted_by : (len out : ℕ) (o : Option ℕ) → rounds len ≡ o → first (expand_checks (cells len o) out) ≡ None → Fitted len out
-fitted_by len out (Some r) e f = record { r = r; is = e; size = eqb-true out (16 * (r + 1)) (size_due (out == 16 * (r + 1)) f) }
+fitted_by len out (Some r) e f = record { r = r; is = e; size = cells_due (r + 1) out f }
 fitted_by len out None e f = let z : ◌≡◌ {A = ℕ} 0 1 = cc in absurd (omega arith)
 
 pub fitted : (len out : ℕ) → first (expand_checks (need len) out) ≡ None → Fitted len out

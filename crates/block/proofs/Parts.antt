@@ -1,5 +1,5 @@
 -- Parts of lists of bytes are lists of bytes. Assumes nothing.
-use Rattle.std.proofs.Common.{ℕ, zero, suc, ◌<◌, Bool, true, T, ltb, List, [], ◌∷◌, ◌++◌, get_or, take, drop, ltb→lt}
+use Rattle.std.proofs.Common.{ℕ, zero, suc, ◌<◌, Bool, true, T, ltb, List, [], ◌∷◌, ◌++◌, get_or, take, drop, replicate, ltb→lt, lit<}
 use Rattle.block.specs.Bytes.{Bytes}
 use Rattle.block.proofs.Test.{both, both_left, both_right}
 
@@ -7,6 +7,11 @@ use Rattle.block.proofs.Test.{both, both_left, both_right}
 pub bytes_from : (xs : List ℕ) → ((i : ℕ) → get_or xs i 0 < 256) → Bytes xs
 bytes_from [] h = tt
 bytes_from (x ∷ xs) h = (h 0, bytes_from xs (λ i. h (suc i)))
+
+-- zeros are bytes
+pub bytes_zeros : (n : ℕ) → Bytes (replicate n 0)
+bytes_zeros zero = tt
+bytes_zeros (suc n) = (lit< tt, bytes_zeros n)
 
 pub bytes_append : (xs ys : List ℕ) → Bytes xs → Bytes ys → Bytes (xs ++ ys)
 bytes_append [] ys hx hy = hy

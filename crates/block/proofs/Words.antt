@@ -1,6 +1,7 @@
 -- Words of a block: what is done to each, undone, and a loop that goes through them in place. Assumes nothing.
-use Rattle.std.proofs.Common.{◌≡◌, ℕ, zero, suc, ◌+◌, ◌*◌, ◌<◌, ◌≤◌, List, [], ◌∷◌, ◌++◌, length, take, drop, sym, refl, ap, ◌∙◌, ap₂, mul-le-mul_right, suc-mul, suc-add, zero-add, zero-mul, add-one, arith, length-append}
+use Rattle.std.proofs.Common.{◌≡◌, ℕ, zero, suc, ◌+◌, ◌*◌, ◌<◌, ◌≤◌, List, ◌++◌, length, take, drop, sym, refl, ap, ◌∙◌, ap₂, mul-le-mul_right, suc-mul, zero-mul, add-one, arith, length-append}
 use Rattle.std.proofs.lemmas.List.{length-drop, length-take-le, take_at, drop_at, take-append-drop, drop-drop, append_assoc}
+use Rattle.std.proofs.Math.Seq.{take-append-add}
 use borrow.Rule.Slice.PartMut.{put_mid}
 use Rattle.block.specs.Bytes.{Bytes}
 use Rattle.block.specs.Words.{each_word}
@@ -40,10 +41,6 @@ module _ (t : ℕ) (f : List ℕ → List ℕ) (long : (v : List ℕ) → length
       ∙ ap₂ ◌++◌ (back (take t x) l (bytes_take t x b)) (each_word_back g back n (drop t x) r (bytes_drop t x b))
       ∙ take-append-drop t x
 
-take_past : (h y : List ℕ) (o : ℕ) → take (length h + o) (h ++ y) ≡ h ++ take o y
-take_past [] y o = ap (λ n. take n y) (zero-add o)
-take_past (a ∷ h) y o = ap (λ n. take n (a ∷ (h ++ y))) (suc-add (length h) o) ∙ ap (λ l. a ∷ l) (take_past h y o)
-
 steps : ℕ → ℕ → ℕ
 steps t zero = 0
 steps t (suc i) = t + steps t i
@@ -64,7 +61,7 @@ module _ (t : ℕ) (f : List ℕ → List ℕ) (long : (v : List ℕ) → length
       let y = each_word i t f (drop t x) in
       let lg : length g ≡ t = long (take t x) (length-take-le t x (omega arith)) in
       let dropped : drop (t + o) (g ++ y) ≡ drop o y = sym (drop-drop o t (g ++ y)) ∙ ap (drop o) (drop_at g y t lg) in
-      let taken : take (t + o) (g ++ y) ≡ g ++ take o y = ap (λ n. take (n + o) (g ++ y)) (sym lg) ∙ take_past g y o in
+      let taken : take (t + o) (g ++ y) ≡ g ++ take o y = ap (λ n. take (n + o) (g ++ y)) (sym lg) ∙ take-append-add g y o in
       ap₂ (λ u v. u ++ (w ++ drop t v)) taken dropped
       ∙ append_assoc g (take o y) (w ++ drop t (drop o y))
       ∙ ap (λ l. g ++ l) (put_word i (drop t x) w (simp length-drop (omega arith)) (e ∙ ap (λ l. f (take t l)) dropped))

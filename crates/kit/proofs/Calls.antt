@@ -1,9 +1,9 @@
 -- The calls of a kit where nothing is refused, and what they keep in any case. Assumes nothing.
 use Rattle.std.proofs.Common.{◌≡◌, ℕ, ◌*◌, Bool, true, false, not, eqb, List, [], ◌∷◌, length, Some, None, Ok, Err, Option, Result, sym, refl, ap, ◌∙◌, arith}
-use Rattle.std.proofs.lemmas.Bool.{eq-eqb, ne_eqb, eqb-true}
+use Rattle.std.proofs.lemmas.Bool.{eq-eqb, eqb-true}
 use Rattle.refusal.specs.declared.KeyFault.{KeyFault}
 use Rattle.refusal.specs.declared.Refusal.{Refusal}
-use Rattle.refusal.specs.declared.Refusal.TheVariants.{Key, Block as WrongSize}
+use Rattle.refusal.specs.declared.Refusal.TheVariants.{Block as WrongSize}
 use Rattle.refusal.specs.Checks.{first, refusal}
 use Rattle.block.specs.Bytes.{Bytes, Block}
 use Rattle.kit.specs.Meaning.{Meaning, Sized, Sound}
@@ -16,6 +16,14 @@ expand_passes need out n e s = ap (λ r. first (expand_checks r out)) e ∙ rw (
 
 pub cipher_passes : (w : ℕ) (need : Result ℕ KeyFault) (s b n : ℕ) → need ≡ Ok n → s ≡ 16 * n → b ≡ w → first (cipher_checks w need s b) ≡ None
 cipher_passes w need s b n e f h = ap (λ r. first (cipher_checks w r s b)) e ∙ rw (eq-eqb s (16 * n) f, eq-eqb b w h)
+
+size_due : (p : Bool) → first ((not p, WrongSize) ∷ []) ≡ None → p ≡ true
+size_due true e = refl
+size_due false e = let z : ◌≡◌ {A = ℕ} 0 1 = cc in absurd (omega arith)
+
+-- a schedule that is not refused has the cells of its key
+pub cells_due : (n out : ℕ) → first (expand_checks (Ok n) out) ≡ None → out ≡ 16 * n
+cells_due n out e = eqb-true out (16 * n) (size_due (eqb out (16 * n)) e)
 
 -- what is told of an accepted length is its cells, and of a refused one its fault
 pub told_ok : (r : Result ℕ KeyFault) (n : ℕ) → told r ≡ Ok n → r ≡ Ok n

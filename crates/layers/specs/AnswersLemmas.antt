@@ -6,6 +6,7 @@ use Rattle.refusal.specs.declared.Refusal.{Refusal}
 use Rattle.refusal.specs.declared.Refusal.TheVariants.{Block as WrongSize}
 use Rattle.refusal.specs.Checks.{first}
 use Rattle.kit.specs.Calls.{told, expand_checks}
+use Rattle.kit.proofs.Calls.{cells_due}
 use Rattle.refusal.specs.Faults.{here}
 use Rattle.layers.specs.Depth.{risen, bounded, both}
 
@@ -81,16 +82,9 @@ pub both_refused_second : (len m : ℕ) (first second : Result ℕ KeyFault) (re
 both_refused_second len m first second reason e f = ap (λ r. told (both len r second)) e ∙ at_second len m second reason f
 
 -- a schedule that is not refused has the cells of its key
-size_due : (p : Bool) → first ((not p, WrongSize) ∷ []) ≡ None → p ≡ true
-size_due true e = refl
-size_due false e = let z : ◌≡◌ {A = ℕ} 0 1 = cc in absurd (omega arith)
-
-pub cells_due : (n out : ℕ) → None ≡ first (expand_checks (Ok n) out) → out ≡ 16 * n
-cells_due n out e = eqb-true out (16 * n) (size_due (eqb out (16 * n)) (sym e))
-
 pub expand_due : (need : Result ℕ KeyFault) (out : ℕ) → first (expand_checks need out) ≡ None → (n : ℕ) × ((need ≡ Ok n) × (out ≡ 16 * n))
 expand_due (Err fault) out e = let z : ◌≡◌ {A = ℕ} 0 1 = cc in absurd (omega arith)
-expand_due (Ok n) out e = (n, (refl, cells_due n out (sym e)))
+expand_due (Ok n) out e = (n, (refl, cells_due n out e))
 
 -- a call that is refused, where nothing is due
 pub none_due : {reason : Refusal} {r : Option Refusal} → Some reason ≡ r → r ≡ None → ⊥

@@ -3,7 +3,7 @@ use Rattle.std.proofs.Common.{◌≡◌, ℕ, zero, suc, ◌+◌, ◌-◌, ◌%�
 use native.Mathlib.Nat.{add-mod_left}
 use lib.ListN.{length-replicate}
 use Rattle.block.specs.Bytes.{Bytes, Block}
-use Rattle.block.proofs.Parts.{bytes_append}
+use Rattle.block.proofs.Parts.{bytes_append, bytes_zeros}
 use Rattle.std.proofs.lemmas.List.{length-take, length-take-le, take-append-drop, get_or-drop, drop_more, length-drop}
 use Rattle.std.proofs.lemmas.Bool.{and_left, and_right, and_parts, ne_eqb, eqb-true}
 use Rattle.std.specs.List.{All}
@@ -12,10 +12,6 @@ use Rattle.modes.specs.Padding.{padding, Unpadded, all_zero, or_here, text_end, 
 
 pub length_padding : (w : ℕ) (text : List ℕ) → 0 < w → length (padding w text) ≤ w
 length_padding w text some = simp length-replicate (omega arith)
-
-bytes_zeros : (n : ℕ) → Bytes (replicate n 0)
-bytes_zeros zero = tt
-bytes_zeros (suc n) = (lit< tt, bytes_zeros n)
 
 pub bytes_padding : (w : ℕ) (text : List ℕ) → Bytes (padding w text)
 bytes_padding w text = (lit< tt, bytes_zeros (w - 1 - length text % w))

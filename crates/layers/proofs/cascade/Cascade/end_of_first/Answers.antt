@@ -1,7 +1,8 @@
 use Rattle.std.proofs.Common.{sym, ap, ◌∙◌}
 use Rattle.kit.specs.Calls.{told}
 use Rattle.kit.proofs.Calls.{told_ok}
-use Rattle.layers.specs.AnswersLemmas.{refused_not_ok, cells_due}
+use Rattle.kit.proofs.Calls.{cells_due}
+use Rattle.layers.specs.AnswersLemmas.{refused_not_ok}
 use Rattle.layers.specs.CascadesLemmas.{told_accepted, begins}
 use Rattle.layers.proofs.cascade.Cascade.end_of_first.Goals as goal
 
@@ -19,4 +20,4 @@ returns-clause-within g c =
     let cells = c.in_ok-need.field-0 in
     let a = told_accepted self.split m n c.args.len cells c.need.result c.need.ensures c.in_ok-need.was in
     let ours = told_ok (m.need self.split) c.in_ok-ours.ours (sym c.need-2.ensures ∙ c.in_ok-ours.was) in
-    (begins self.split m n c.args.len cells a c.args.size c.in_ok-ours.ours (cells_due cells c.args.size c.in_ok-fitting.ensures) ours, a.long)
+    (begins self.split m n c.args.len cells a c.args.size c.in_ok-ours.ours (cells_due cells c.args.size (sym c.in_ok-fitting.ensures)) ours, a.long)

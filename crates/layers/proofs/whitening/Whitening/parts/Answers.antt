@@ -1,6 +1,6 @@
-use Rattle.std.proofs.Common.{◌≡◌, ◌-◌, ◌*◌, length, take, drop, ap, ◌∙◌, ap₂, arith}
+use Rattle.std.proofs.Common.{◌≡◌, ◌-◌, ◌*◌, length, take, drop, sym, ap, ◌∙◌, ap₂, arith}
 use Rattle.layers.specs.Whitened.{inner, block_a, block_b}
-use Rattle.layers.specs.AnswersLemmas.{cells_due}
+use Rattle.kit.proofs.Calls.{cells_due}
 use Rattle.layers.specs.WhitensLemmas.{told_accepted, room}
 use Rattle.layers.proofs.whitening.Whitening.parts.Goals as goal
 
@@ -10,7 +10,7 @@ overflow_sub-schedule g c =
     let m = g.K.Kit.meaning k in
     let n = c.in_ok-need.field-0 in
     let a = told_accepted m c.args.len n c.need.result c.need.ensures c.in_ok-need.was in
-    let size = cells_due n (length c.args.schedule.now) c.in_ok-fitting.ensures in
+    let size = cells_due n (length c.args.schedule.now) (sym c.in_ok-fitting.ensures) in
     omega (arith, room m (g.met.K.Kit.sound k) c.args.len n a, size, c.white.ensures.is)
 
 pub split_at-requires-2 : goal.split_at-requires-2
@@ -19,7 +19,7 @@ split_at-requires-2 g c =
     let m = g.K.Kit.meaning k in
     let n = c.in_ok-need.field-0 in
     let a = told_accepted m c.args.len n c.need.result c.need.ensures c.in_ok-need.was in
-    let size = cells_due n (length c.args.schedule.now) c.in_ok-fitting.ensures in
+    let size = cells_due n (length c.args.schedule.now) (sym c.in_ok-fitting.ensures) in
     omega (arith, room m (g.met.K.Kit.sound k) c.args.len n a, size, c.white.ensures.is, c.width_of.ensures.is, c.if-block-width_of.false, c.split_at.ensures.back_len)
 
 pub overflow_sub-result : goal.overflow_sub-result
@@ -34,7 +34,7 @@ returns-clause-whole g c =
     let m = g.K.Kit.meaning k in
     let n = c.in_ok-need.field-0 in
     let a = told_accepted m c.args.len n c.need.result c.need.ensures c.in_ok-need.was in
-    let size = cells_due n (length c.args.schedule.now) c.in_ok-fitting.ensures in
+    let size = cells_due n (length c.args.schedule.now) (sym c.in_ok-fitting.ensures) in
     let both : length c.split_at.result.1.now ≡ 2 * c.args.block =
     omega (arith, room m (g.met.K.Kit.sound k) c.args.len n a, size, c.white.ensures.is, c.width_of.ensures.is, c.if-block-width_of.false, c.split_at.ensures.back_len) in
     let ends = c.split_at-2.ensures in

@@ -1,7 +1,8 @@
 use Rattle.std.proofs.Common.{◌-◌, length, take, drop, sym, ap, ◌∙◌, arith}
 use Rattle.kit.proofs.Calls.{expanded_fits, told_ok}
 use Rattle.layers.specs.Whitened.{inner, need, whitened}
-use Rattle.layers.specs.AnswersLemmas.{cells_due, none_due}
+use Rattle.kit.proofs.Calls.{cells_due}
+use Rattle.layers.specs.AnswersLemmas.{none_due}
 use Rattle.layers.specs.WhitensLemmas.{told_accepted, room, expand_accepted, written}
 use Rattle.layers.proofs.whitening.WhiteningKit.expand.Goals as goal
 
@@ -17,7 +18,7 @@ overflow_sub-schedule g c =
     let m = g.K.Kit.meaning k in
     let n = c.in_ok-need.field-0 in
     let a = told_accepted m (length c.args.key.now) n c.need.result c.need.ensures c.in_ok-need.was in
-    let size = cells_due n (length c.args.schedule.now) c.in_ok-fitting.ensures in
+    let size = cells_due n (length c.args.schedule.now) (sym c.in_ok-fitting.ensures) in
     omega (arith, room m (g.met.K.Kit.sound k) (length c.args.key.now) n a, size, c.white-2.ensures.is)
 
 pub returns-in_err-expand : goal.returns-in_err-expand
@@ -28,7 +29,7 @@ returns-in_err-expand g c =
     let key = c.args.key.now in
     let n = c.in_ok-need.field-0 in
     let a = told_accepted m (length key) n c.need.result c.need.ensures c.in_ok-need.was in
-    let size = cells_due n (length c.args.schedule.now) c.in_ok-fitting.ensures in
+    let size = cells_due n (length c.args.schedule.now) (sym c.in_ok-fitting.ensures) in
     let er = c.split_at.ensures.front ∙ ap (λ v. take (length key - v) key) c.white.ensures.is in
     absurd (none_due c.in_err-expand.ensures.outcome
     (expand_accepted m key n a c.split_at.result.0.now c.split_at_mut-inner.result.0.now er
@@ -43,7 +44,7 @@ returns-clause-written g c =
     let out = c.args.schedule.now in
     let n = c.in_ok-need.field-0 in
     let a = told_accepted m (length key) n c.need.result c.need.ensures c.in_ok-need.was in
-    let size = cells_due n (length out) c.in_ok-fitting.ensures in
+    let size = cells_due n (length out) (sym c.in_ok-fitting.ensures) in
     let er = c.split_at.ensures.front ∙ ap (λ v. take (length key - v) key) c.white.ensures.is in
     let ev = c.copy_from_slice.ensures.after ∙ c.split_at.ensures.back ∙ ap (λ v. drop (length key - v) key) c.white.ensures.is in
     written m key n a c.split_at.result.0.now c.split_at_mut-inner.result.0.now er
