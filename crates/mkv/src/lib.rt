@@ -134,6 +134,7 @@ impl<const T: usize> Version<T> {
         Ok(())
     }
 
+    // Not one function with `decipher`: matrix and rounds would be its arguments, and its promise would switch between two meanings.
     fn encipher(&self, len: usize, schedule: &[u8], block: &mut [u8]) -> Result<(), Refusal>
         ensures outcome { refusal result ≡ cipher_refusal (meant T self.now) len schedule.now block.old }
         ensures written { block.new ≡ enciphered (meant T self.now) len schedule.now block.old }
@@ -180,6 +181,7 @@ pub fn round_steps() -> [Step; 6]
 }
 
 // One step of the round, or of the round undone, by the table and the matrix of that way.
+// A match, not closures: callers name and list the steps as values, and this is the one place that runs them.
 #[tactic(auto, unfolding(crate::specs::Steps::half_a, crate::specs::Steps::half_b))]
 fn step_with<const T: usize>(
     table: &[u8; 256],
