@@ -1,8 +1,7 @@
 -- A matrix undoes another where their product is the identity. Assumes nothing.
-use Rattle.std.proofs.Common.{◌≡◌, ℕ, zero, suc, ◌+◌, ◌<◌, ◌≤◌, min, Bool, true, T, ltb, List, [], ◌∷◌, map, length, get_or, drop, replicate, sym, refl, ap, ◌∙◌, ap₂, inl, inr, zero-lt-suc, arith, ltb→lt}
+use Rattle.std.proofs.Common.{◌≡◌, ℕ, zero, suc, ◌<◌, Bool, true, T, ltb, List, [], ◌∷◌, map, length, get_or, replicate, sym, refl, ap, ◌∙◌, ap₂, zero-lt-suc, arith, ltb→lt}
 use lib.Bits.{bit_xor, xor_lt, xor_zero_r}
-use Rattle.std.proofs.lemmas.List.{drop_more, drop_all, length-map, get_or-map}
-use Rattle.std.proofs.lemmas.Bool.{cases_lt}
+use Rattle.std.proofs.lemmas.List.{length-map, get_or-map}
 use Rattle.block.specs.Bytes.{Bytes, Block, xor}
 use Rattle.block.proofs.Test.{both, both_left, both_right}
 use Rattle.block.proofs.Parts.{low?, bytes_by}
@@ -20,11 +19,6 @@ pub apply_bytes : (p : ℕ) (m : List (List ℕ)) (v : List ℕ) → p < 256 →
 unfolding apply
 apply_bytes p [] v hp bm = tt
 apply_bytes p (r ∷ rs) v hp bm = (dot_lt p r v hp bm.0, apply_bytes p rs v hp bm.1)
-
-dot_nil : (p : ℕ) (r : List ℕ) → dot p r [] ≡ 0
-unfolding dot
-dot_nil p [] = refl
-dot_nil p (r ∷ rs) = refl
 
 dot_add : (p : ℕ) (u w v : List ℕ) → dot p (xor u w) v ≡ bit_xor (dot p u v) (dot p w v)
 unfolding dot xor

@@ -1,7 +1,7 @@
 -- The code of the key schedule. Assumes nothing.
-use Rattle.std.proofs.Common.{◌≡◌, ℕ, zero, suc, ◌+◌, ◌-◌, ◌*◌, ◌<◌, ◌≤◌, List, [], ◌++◌, length, set, replicate, sym, ap, ◌∙◌, ap₂, zero-mul, arith}
+use Rattle.std.proofs.Common.{◌≡◌, ℕ, zero, suc, ◌+◌, ◌-◌, ◌*◌, ◌<◌, ◌≤◌, List, [], ◌++◌, length, take, drop, set, replicate, sym, refl, ap, ◌∙◌, ap₂, append_assoc, arith}
 use lib.ListN.{length-replicate}
-use Rattle.std.proofs.lemmas.List.{set-append_left, set-append_right, replicate-append-replicate, append-nil, nil_from_length}
+use Rattle.std.proofs.lemmas.List.{set-append_left, set-append_right, replicate-append-replicate, append-nil, take-append-drop}
 use Rattle.mkv.specs.Keys.{number_key, next_left, next_right, updates}
 
 -- ---- the round keys (n, 0) and (0, 0), as eight words
@@ -28,16 +28,25 @@ number_is t n h =
 
 -- ---- the updates
 
-pub updates_none : (t : ℕ) (m : List (List ℕ)) (r i : ℕ) (left right out : List ℕ) → r ≤ 0 → length out ≡ r * (8 * t) → out ≡ updates t m r i left right
+pub updates_none : (t : ℕ) (m : List (List ℕ)) (r i : ℕ) (left right : List ℕ) → r ≤ 0 → updates t m r i left right ≡ []
 unfolding updates
-updates_none t m zero i left right out h e = nil_from_length out (e ∙ zero-mul (8 * t))
-updates_none t m (suc r) i left right out h e = absurd (omega arith)
+updates_none t m zero i left right h = refl
+updates_none t m (suc r) i left right h = absurd (omega arith)
 
-pub updates_more : (t : ℕ) (m : List (List ℕ)) (r i : ℕ) (left right : List ℕ) → 0 < r
-    → next_left t m i right ++ (next_right t m i left right ++ updates t m (r - 1) (i + 1) (next_left t m i right) (next_right t m i left right))
-    ≡ updates t m r i left right
+-- what is done, and then what r updates write, is all; so it stays once the first of them is done and leaves state
+pub updates_more : (t : ℕ) (m : List (List ℕ)) (r i : ℕ) (left right state done all : List ℕ) → 0 < r
+    → take (4 * t) state ≡ next_left t m i right → drop (4 * t) state ≡ next_right t m i left right
+    → done ++ updates t m r i left right ≡ all
+    → (done ++ state) ++ updates t m (r - 1) (i + 1) (take (4 * t) state) (drop (4 * t) state) ≡ all
 unfolding updates
-updates_more t m zero i left right h = absurd (omega arith)
-updates_more t m (suc r) i left right h =
-    let e : suc r - 1 ≡ r = omega arith in
-    ap (λ n. next_left t m i right ++ (next_right t m i left right ++ updates t m n (i + 1) (next_left t m i right) (next_right t m i left right))) e
+updates_more t m zero i left right state done all h el er e = absurd (omega arith)
+updates_more t m (suc r) i left right state done all h el er e =
+    let a = take (4 * t) state in
+    let b = drop (4 * t) state in
+    let n : suc r - 1 ≡ r = omega arith in
+    let later = updates t m (suc r - 1) (i + 1) a b in
+    append_assoc done state later
+    ∙ ap (λ x. done ++ x) (ap (λ s. s ++ later) (sym (take-append-drop (4 * t) state)) ∙ append_assoc a b later
+    ∙ ap₂ (λ x y. x ++ (y ++ updates t m (suc r - 1) (i + 1) x y)) el er
+    ∙ ap (λ k. next_left t m i right ++ (next_right t m i left right ++ updates t m k (i + 1) (next_left t m i right) (next_right t m i left right))) n)
+    ∙ e

@@ -38,15 +38,6 @@ none_by t m post rest b end h (suc n) l s = absurd (omega (arith, suc-mul n (8 *
 pub ahead_none : (t : ℕ) (m : List (List ℕ)) (post rest b end : List ℕ) → length rest < 8 * t → Ahead t m post rest b end → xor b post ≡ end
 ahead_none t m post rest b end h k = none_by t m post rest b end h k.n k.long k.ends
 
--- before the first round
-pub ahead_all : (t : ℕ) (m : List (List ℕ)) (n : ℕ) (keys rounds post b : List ℕ) → rounds ≡ take (n * (8 * t)) keys → post ≡ drop (n * (8 * t)) keys
-    → n * (8 * t) ≤ length keys → Ahead t m post rounds b (encipher t m n keys b)
-ahead_all t m n keys rounds post b er ep h = record {
-  n = n;
-  long = ap length er ∙ length-take-le (n * (8 * t)) keys (omega arith);
-  ends = ap (λ l. encipher t m n l b) (ap₂ ◌++◌ er ep ∙ take-append-drop (n * (8 * t)) keys);
-}
-
 -- ---- the rounds undone
 
 -- n rounds undone, the last first
@@ -91,14 +82,6 @@ behind_by t m rest b end key more h e lk (suc n) l s =
 pub behind_more : (t : ℕ) (m : List (List ℕ)) (rest b end key more : List ℕ) → 0 < t → rest ≡ more ++ key → length key ≡ 8 * t
     → Behind t m rest b end → Behind t m more (round_back t m key b) end
 behind_more t m rest b end key more h e lk k = behind_by t m rest b end key more h e lk k.n k.long k.ends
-
-behind_none_by : (t : ℕ) (m : List (List ℕ)) (rest b end : List ℕ) → length rest < 8 * t
-    → (n : ℕ) → length rest ≡ n * (8 * t) → undone t m n rest b ≡ end → b ≡ end
-behind_none_by t m rest b end h zero l s = s
-behind_none_by t m rest b end h (suc n) l s = absurd (omega (arith, suc-mul n (8 * t)))
-
-pub behind_none : (t : ℕ) (m : List (List ℕ)) (rest b end : List ℕ) → length rest < 8 * t → Behind t m rest b end → b ≡ end
-behind_none t m rest b end h k = behind_none_by t m rest b end h k.n k.long k.ends
 
 -- before the last round is undone
 pub behind_all : (t : ℕ) (m : List (List ℕ)) (n : ℕ) (keys rounds post rem rest b : List ℕ) → rounds ≡ take (n * (8 * t)) keys → post ≡ drop (n * (8 * t)) keys

@@ -19,7 +19,7 @@ use kit::{Kit, Narrow, Wide};
 use refusal::{KeyFault, Refusal};
 use round::{mix_words, run_rounds, undo_rounds, x_words};
 use schedule::write_schedule;
-use tables::{M4, M4_INVERSE, M8, M8_INVERSE, Matrix, NARROW, S, S_INVERSE, Version, WIDE};
+use tables::{BACK, FORTH, Matrix, NARROW, Version, WIDE, Way};
 
 mod round;
 mod schedule;
@@ -134,6 +134,7 @@ impl<const T: usize> Version<T> {
         Ok(())
     }
 
+    // Not one function with `decipher`: matrix and rounds would be its arguments, and its promise would switch between two meanings.
     fn encipher(&self, len: usize, schedule: &[u8], block: &mut [u8]) -> Result<(), Refusal>
         ensures outcome { refusal result ≡ cipher_refusal (meant T self.now) len schedule.now block.old }
         ensures written { block.new ≡ enciphered (meant T self.now) len schedule.now block.old }
@@ -180,6 +181,7 @@ pub fn round_steps() -> [Step; 6]
 }
 
 // One step of the round, or of the round undone, by the table and the matrix of that way.
+// A match, not closures: callers name and list the steps as values, and this is the one place that runs them.
 #[tactic(auto, unfolding(crate::specs::Steps::half_a, crate::specs::Steps::half_b))]
 fn step_with<const T: usize>(
     table: &[u8; 256],
@@ -202,27 +204,22 @@ fn step_with<const T: usize>(
     }
 }
 
-// The same at the width that the block has, by the matrices of both widths.
-fn step_at(
-    table: &[u8; 256],
-    narrow: &Matrix<4>,
-    wide: &Matrix<8>,
-    step: Step,
-    key: &[u8],
-    block: &mut [u8],
-) -> Result<(), Refusal>
-    ensures outcome { refusal result ≡ first (step_checks (length key.now) (length block.old)) }
-    ensures written { block.new ≡ unless (first (step_checks (length key.now) (length block.old))) (stepped_at table.now narrow.now.rows wide.now.rows step key.now block.old) block.old }
-{
-    if key.len() / 2 != block.len() || key.len() % 2 != 0 {
-        return Err(Refusal::Block);
+impl Way {
+    // One step at the width that the block has.
+    fn step(&self, step: Step, key: &[u8], block: &mut [u8]) -> Result<(), Refusal>
+        ensures outcome { refusal result ≡ first (step_checks (length key.now) (length block.old)) }
+        ensures written { block.new ≡ unless (first (step_checks (length key.now) (length block.old))) (stepped_at self.now.table self.now.narrow.rows self.now.wide.rows step key.now block.old) block.old }
+    {
+        if key.len() / 2 != block.len() || key.len() % 2 != 0 {
+            return Err(Refusal::Block);
+        }
+        match block.len() {
+            16 => step_with(&self.table, &self.narrow, step, key, block),
+            32 => step_with(&self.table, &self.wide, step, key, block),
+            _ => return Err(Refusal::Block),
+        }
+        Ok(())
     }
-    match block.len() {
-        16 => step_with(table, narrow, step, key, block),
-        32 => step_with(table, wide, step, key, block),
-        _ => return Err(Refusal::Block),
-    }
-    Ok(())
 }
 
 // One step of the round with a key of two blocks, at the width that the block has.
@@ -231,7 +228,7 @@ pub fn apply_step(step: Step, key: &[u8], block: &mut [u8]) -> Result<(), Refusa
     ensures outcome { refusal result ≡ first (step_checks (length key.now) (length block.old)) }
     ensures written { block.new ≡ unless (first (step_checks (length key.now) (length block.old))) (at_width step key.now block.old) block.old }
 {
-    step_at(&S, &M4, &M8, step, key, block)
+    FORTH.step(step, key, block)
 }
 
 // One step of the round undone.
@@ -240,7 +237,7 @@ pub fn undo_step(step: Step, key: &[u8], block: &mut [u8]) -> Result<(), Refusal
     ensures outcome { refusal result ≡ first (step_checks (length key.now) (length block.old)) }
     ensures written { block.new ≡ unless (first (step_checks (length key.now) (length block.old))) (at_width_back step key.now block.old) block.old }
 {
-    step_at(&S_INVERSE, &M4_INVERSE, &M8_INVERSE, step, key, block)
+    BACK.step(step, key, block)
 }
 
 // The two tables lead back from one another, at every byte; and the steps make up the round, and the round undone.

@@ -52,6 +52,7 @@ pub fn round<const T: usize>(m: &Matrix<T>, key: &[u8], block: &mut [u8])
 }
 
 // The round undone; `m` is the inverse matrix.
+// Not one function with `round`: the order of the steps is all that either says, and a parameter for the way would switch it.
 fn undo_round<const T: usize>(m: &Matrix<T>, key: &[u8], block: &mut [u8])
     requires two { length key.now ≡ 8 * T }
     requires width { length block.old ≡ 4 * T }
@@ -80,6 +81,7 @@ pub fn run_rounds<const T: usize>(m: &Matrix<T>, count: usize, keys: &[u8], bloc
 }
 
 // The post key, and then `count` rounds undone, the last first.
+// Not one function with `run_rounds`: post key and round keys come from the other end, so only the split would be shared.
 pub fn undo_rounds<const T: usize>(m: &Matrix<T>, count: usize, keys: &[u8], block: &mut [u8])
     requires schedule { length keys.now ≡ count * (8 * T) + 4 * T }
     requires width { length block.old ≡ 4 * T }

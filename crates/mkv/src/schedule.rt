@@ -1,8 +1,8 @@
 // MKV's key schedule at words of T bytes.
 // Promises the schedule that the standard fixes for a key.
 // Rests on the round.
-ghost use Rattle.std.specs.Prelude.{◌≡◌, ◌+◌, ◌-◌, ◌*◌, ◌<◌, ◌≤◌, length, map};
-ghost use Rattle.mkv.specs.Keys.{stirred, updates, start_right, schedule as scheduled};
+ghost use Rattle.std.specs.Prelude.{◌≡◌, ◌+◌, ◌-◌, ◌*◌, ◌<◌, ◌≤◌, length, map, take, drop};
+ghost use Rattle.mkv.specs.Keys.{stirred, next_left, next_right, start_left, start_right, schedule as scheduled};
 
 use crate::round::round;
 use crate::tables::Matrix;
@@ -20,32 +20,18 @@ fn stir<const T: usize>(m: &Matrix<T>, n: u8, block: &mut [u8])
     round(m, zeros.as_flattened(), block);
 }
 
-// Writes Left and Right after each of `count` updates, from update `i` on.
-// The key state stays two slices: of a struct with a lifetime each clause would say `state.entry.left.now`.
-// A recursion, at most eight deep: after `chunks_exact_mut` no proof knows what was written.
-fn update<const T: usize>(
-    m: &Matrix<T>,
-    count: usize,
-    i: u8,
-    left: &mut [u8],
-    right: &mut [u8],
-    out: &mut [u8],
-)
-    requires numbers { (0 < i) × (i + count ≤ 100) }
-    requires halves { (length left.old ≡ 4 * T) × (length right.old ≡ 4 * T) }
-    requires room { length out.old ≡ count * (8 * T) }
-    ensures { out.new ≡ updates T m.now.rows count i left.old right.old }
+// Update i of the key state, Left and then Right.
+fn update<const T: usize>(m: &Matrix<T>, i: u8, state: &mut [u8])
+    requires number { (0 < i) × (2 * i ≤ 255) }
+    requires width { length state.old ≡ 8 * T }
+    ensures left { take (4 * T) state.new ≡ next_left T m.now.rows i (drop (4 * T) state.old) }
+    ensures right { drop (4 * T) state.new ≡ next_right T m.now.rows i (take (4 * T) state.old) (drop (4 * T) state.old) }
 {
-    if count > 0 {
-        stir(m, 2 * i - 1, left);
-        stir(m, 2 * i, right);
-        xor_whole(left, right);
-        let (pair, later) = out.split_at_mut(8 * T);
-        let (new_left, new_right) = pair.split_at_mut(4 * T);
-        new_left.copy_from_slice(right);
-        new_right.copy_from_slice(left);
-        update(m, count - 1, i + 1, right, left, later);
-    }
+    let (left, right) = state.split_at_mut(4 * T);
+    stir(m, 2 * i - 1, left);
+    stir(m, 2 * i, right);
+    xor_whole(left, right);
+    left.swap_with_slice(right);
 }
 
 fn complement(block: &mut [u8])
@@ -56,16 +42,16 @@ fn complement(block: &mut [u8])
     }
 }
 
-// Writes Right_0.
-fn start<const T: usize>(key: &[u8], right: &mut [u8])
+// Writes the key state to begin with.
+fn start<const T: usize>(key: &[u8], state: &mut [u8])
     requires size { (4 * T ≤ length key.now) × (length key.now ≤ 8 * T) }
-    requires width { length right.old ≡ 4 * T }
-    ensures { right.new ≡ start_right T key.now }
+    requires width { length state.old ≡ 8 * T }
+    ensures left { take (4 * T) state.new ≡ start_left T key.now }
+    ensures right { drop (4 * T) state.new ≡ start_right T key.now }
 {
-    let (first, others) = key.split_at(4 * T);
-    let (given, filled) = right.split_at_mut(others.len());
-    given.copy_from_slice(others);
-    filled.copy_from_slice(&first[others.len()..]);
+    let (given, filled) = state.split_at_mut(key.len());
+    given.copy_from_slice(key);
+    filled.copy_from_slice(&key[key.len() - 4 * T..4 * T]);
     complement(filled);
 }
 
@@ -76,14 +62,14 @@ pub fn write_schedule<const T: usize>(m: &Matrix<T>, count: usize, key: &[u8], o
     requires room { length out.old ≡ 4 * T + count * (8 * T) }
     ensures { out.new ≡ scheduled T m.now.rows count key.now }
 {
-    // blocks of either width
-    let mut left = [0; 32];
-    let mut right = [0; 32];
-    let left = &mut left[..4 * T];
-    let right = &mut right[..4 * T];
-    left.copy_from_slice(&key[..4 * T]);
-    start::<T>(key, right);
-    let (first, later) = out.split_at_mut(4 * T);
-    first.copy_from_slice(left);
-    update(m, count, 1, left, right, later);
+    let mut state = [[0; T]; 8];
+    let state = state.as_flattened_mut();
+    start::<T>(key, state);
+    out[..4 * T].copy_from_slice(&state[..4 * T]);
+    // by index: after `chunks_exact_mut` no proof knows what was written
+    for i in 0..count {
+        update(m, i as u8 + 1, state);
+        let at = 4 * T + i * (8 * T);
+        out[at..at + 8 * T].copy_from_slice(state);
+    }
 }

@@ -29,6 +29,27 @@ pub const WIDE: Version<8> = Version {
     inverse: M8_INVERSE,
 };
 
+// What the steps go by, forth or back: the substitution, and the matrix of either width.
+pub struct Way {
+    pub table: [u8; 256],
+    pub narrow: Matrix<4>,
+    pub wide: Matrix<8>,
+}
+
+// The round's.
+pub const FORTH: Way = Way {
+    table: S,
+    narrow: M4,
+    wide: M8,
+};
+
+// The round's undone.
+pub const BACK: Way = Way {
+    table: S_INVERSE,
+    narrow: M4_INVERSE,
+    wide: M8_INVERSE,
+};
+
 // s, by the high digit of a byte down and the low digit across.
 pub const S: [u8; 256] = [
     0x01, 0x11, 0x91, 0xE1, 0xD1, 0xB1, 0x71, 0x61, 0xF1, 0x21, 0xC1, 0x51, 0xA1, 0x41, 0x31, 0x81,

@@ -1,5 +1,4 @@
-use Rattle.std.proofs.Common.{◌≡◌, ℕ, ◌+◌, ◌-◌, ◌*◌, ◌≤◌, List, length, take, drop, ap, ◌∙◌, arith}
-use Rattle.block.specs.Words.{each_word}
+use Rattle.std.proofs.Common.{◌≡◌, ℕ, ◌+◌, ◌-◌, ◌*◌, ◌≤◌, List, length, take, drop, ◌∙◌, arith}
 use Rattle.block.proofs.Loops.{fitted_whole}
 use Rattle.block.proofs.Words.{word_end, word_more, each_word_none}
 use Rattle.field.specs.Matrix.{apply}
@@ -20,8 +19,3 @@ loop-i-preserved g c =
     let long : (v : List ℕ) → length (apply p m v) ≡ t = λ v. length_apply p m v ∙ c.told-m in
     word_more t (apply p m) (λ v l. long v) i (i * t + t - i * t) c.args.block.now c.loop-i.block c.copy_from_slice.new.self
     (omega arith) (omega arith) c.loop-i.invariant (c.copy_from_slice.ensures.after ∙ c.apply-product.ensures ∙ fitted_whole t (apply p m w) (long w))
-
-pub returns : goal.returns
-returns g c =
-    let e : c.loop-i.i ≡ 4 = omega arith in
-    c.loop-i.invariant ∙ ap (λ n. each_word n g.row.T (apply c.args.poly c.args.m.now) c.args.block.now) e

@@ -1,13 +1,6 @@
 use Rattle.std.proofs.Common.{◌∙◌, arith}
-use Rattle.mkv.proofs.Rounds.{ahead_more, ahead_none, ahead_all}
+use Rattle.mkv.proofs.Rounds.{ahead_more, ahead_none}
 use Rattle.mkv.proofs.round.run_rounds.Goals as goal
-
-pub loop-key-init : goal.loop-key-init
-loop-key-init g c =
-    let is = c.into_iter-key-iterator.ensures.into_iter_gives in
-    let chunks = c.chunks_exact-key-items.ensures in
-    let all = ahead_all g.row.T c.args.m.now.rows c.args.count c.args.keys.now c.split_at.result.0.now c.split_at.result.1.now c.args.block.now c.split_at.ensures.front c.split_at.ensures.back (omega arith) in
-    (rw is chunks.size, rw (is, chunks.rest) all)
 
 pub loop-key-preserved : goal.loop-key-preserved
 loop-key-preserved g c =

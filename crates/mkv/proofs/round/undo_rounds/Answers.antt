@@ -1,5 +1,5 @@
 use Rattle.std.proofs.Common.{◌∙◌, arith}
-use Rattle.mkv.proofs.Rounds.{behind_more, behind_none, behind_all}
+use Rattle.mkv.proofs.Rounds.{behind_more, behind_all}
 use Rattle.mkv.proofs.round.undo_rounds.Goals as goal
 
 pub loop-key-init : goal.loop-key-init
@@ -17,8 +17,3 @@ loop-key-preserved g c =
     let k = c.loop-key.invariant in
     let more = behind_more g.row.T c.args.m.now.rows c.loop-key.key-iterator.rest.now c.loop-key.block _ c.in-Some.key.now c.next.new.self.rest.now (omega arith) h.2.0 (h.2.1 ∙ k.0) k.1 in
     (h.0 ∙ k.0, rw c.undo_round.ensures more)
-
-pub returns : goal.returns
-returns g c =
-    let h = c.in-None.ensures.steps in
-    behind_none g.row.T c.args.m.now.rows c.loop-key.key-iterator.rest.now c.loop-key.block _ (omega (arith, c.loop-key.invariant.0, h.2)) c.loop-key.invariant.1

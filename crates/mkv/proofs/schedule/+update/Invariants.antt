@@ -1,4 +1,0 @@
-use Rattle.mkv.proofs.schedule.+update.Given as goal
-
-abbrev pub decreases-update : goal.decreases-update
-decreases-update g l = l.count
