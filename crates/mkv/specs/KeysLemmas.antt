@@ -7,16 +7,12 @@ use Rattle.std.proofs.Math.Nat.{suc-mul}
 use Rattle.std.proofs.lemmas.List.{length-map, length-take, length-take-le, length-drop, length-set, length-replicate}
 use Rattle.block.specs.Bytes.{Bytes, Block}
 use Rattle.block.proofs.Xor.{block_xor}
-use Rattle.block.proofs.Parts.{bytes_append, bytes_take, bytes_drop}
+use Rattle.block.proofs.Parts.{bytes_append, bytes_take, bytes_drop, bytes_zeros}
 use Rattle.mkv.specs.Steps.{round}
 use Rattle.mkv.specs.Keys.{number_key, stirred, next_left, next_right, updates, start_left, start_right, schedule}
 use Rattle.mkv.specs.StepsLemmas.{Inverse, block_round}
 
 -- ---- blocks throughout
-
-bytes_zeros : (n : ℕ) → Bytes (replicate n 0)
-bytes_zeros zero = tt
-bytes_zeros (suc n) = (omega arith, bytes_zeros n)
 
 bytes_set : (xs : List ℕ) (i v : ℕ) → v < 256 → Bytes xs → Bytes (slice_set xs i v)
 bytes_set [] i v h b = tt
