@@ -9,16 +9,14 @@ ghost use Rattle.bank_calls.specs.Calls.{number, gave, reason, asked, lengths, W
 ghost use Rattle.bank_calls.specs.Pasts.{Adds, AddsUnshown};
 
 use crate::inner::Asked;
-use crate::state::Bank;
+use crate::state::{Bank, LINKS};
 use crate::ticket::{Returned, Ticket};
 use kit::Kit;
 use link::Link;
 use refusal::Refusal;
 use shelf::{KeyCell, Shelf};
 
-// How many links a bank has.
-const LINKS: usize = 8;
-
+// Scratch, memory and `out` stay parameters: firmware lends each for one call, and only an open writes the memory.
 impl<K: Kit> Bank<K> {
     // A bank without cells, all links closed.
     pub fn over(kit: K) -> Bank<K>
@@ -111,6 +109,7 @@ impl<K: Kit> Bank<K> {
         ensures link { MatchResult result (λ _. Shuts self.old ticket.link self.new) (λ e. Kept self.old self.new × (e.ticket ≡ ticket)) }
         ensures past { Adds (K.Kit.meaning self.old.kit) self.old memory.now (ends ticket.link (gave (reason result) out.new)) self.new memory.now }
     {
+        // no `?`: a refusal has to hand the ticket back
         let Some(bytes) = scratch.as_mut_array() else {
             return Err(Returned {
                 refusal: Refusal::Scratch,

@@ -28,6 +28,7 @@ pub(super) struct Asked<'a> {
     pub(super) start: &'a [u8],
 }
 
+// A guard takes two lines in each call: a part of `guard.bytes` itself gets no proof, and a closure would repeat the call's clauses.
 impl<K: Kit> Bank<K> {
     // How many links are open.
     pub(super) fn open_links(&self) -> usize
@@ -99,8 +100,8 @@ impl<K: Kit> Bank<K> {
         ensures outcome { Opens (K.Kit.meaning self.old.kit) (books self.old memory.old) (asked_with 1536 memory.old asked.now.mode asked.now.direction asked.now.key.now asked.now.start.now) result (books self.new memory.new) }
         ensures link { MatchResult result (λ i. Takes (K.Kit.meaning self.old.kit) self.old memory.old (asked_with 1536 memory.old asked.now.mode asked.now.direction asked.now.key.now asked.now.start.now) i self.new memory.new) (λ _. Kept self.old self.new × (memory.new ≡ memory.old)) }
     {
-        let room = Guard { bytes: scratch };
-        let scratch = &mut *room.bytes;
+        let guard = Guard { bytes: scratch };
+        let scratch = &mut *guard.bytes;
         let Asked {
             mode,
             direction,

@@ -7,11 +7,14 @@ ghost use Rattle.bank_calls.specs.Table.{at};
 use link::Link;
 use shelf::{KeyCell, Shelf};
 
+// How many links a bank has.
+pub(super) const LINKS: usize = 8;
+
 #[derive(Drop)]
 pub struct Bank<K> {
     pub(super) kit: K,
     pub(super) shelf: Shelf<KeyCell>,
-    pub(super) links: [Link; 8],
+    pub(super) links: [Link; LINKS],
     ghost eight: { length links ≡ 8 },
     ghost fits: { (i : ℕ) → (at links i).open ≡ true → Fits (at links i) },
     ghost sized: { (i : ℕ) → (at links i).open ≡ true → 1 ≤ shelf.book.size },

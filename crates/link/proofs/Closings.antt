@@ -1,19 +1,18 @@
 -- The end of a CBC link, over the arrays of its record. Assumes nothing.
-use Rattle.std.proofs.Common.{◌≡◌, ℕ, ◌-◌, ◌%◌, ◌<◌, ◌≤◌, Bool, true, false, not, List, [], ◌∷◌, ◌++◌, length, take, replicate, is_some, Some, Ok, Err, sym, refl, ap, ◌∙◌, ap₂, mod-eq_of_lt, arith, length-append}
+use Rattle.std.proofs.Common.{◌≡◌, ℕ, ◌-◌, ◌%◌, ◌<◌, ◌≤◌, Bool, true, false, List, [], ◌∷◌, ◌++◌, length, take, replicate, Ok, Err, sym, refl, ap, ◌∙◌, ap₂, mod-eq_of_lt, arith, length-append}
 use lib.ListN.{length-replicate}
-use Rattle.std.proofs.lemmas.List.{length-take, length-take-le, take-take, take_all, take_at}
+use Rattle.std.proofs.lemmas.List.{length-take-le, take-take, take_all, take_at}
 use Rattle.std.proofs.lemmas.Bool.{lt-ltb, le-ltb}
 use Rattle.refusal.specs.Checks.{first}
 use Rattle.refusal.specs.declared.Refusal.TheVariants.{Output, Ragged, Padding}
 use Rattle.kit.specs.Meaning.{Meaning}
-use Rattle.modes.specs.Join.{join, part}
-use Rattle.modes.specs.Padding.{padding, padded_from, text_end, Unpadded}
+use Rattle.modes.specs.Join.{join}
+use Rattle.modes.specs.Padding.{padding, padded_from}
 use Rattle.modes.specs.Modes.{Cipher}
-use Rattle.modes.specs.Machine.{closing, ragged, bare, before, last_text}
+use Rattle.modes.specs.Machine.{closing, ragged, bare}
 use Rattle.modes.specs.declared.Mode.TheVariants.{Cbc}
 use Rattle.modes.specs.declared.Direction.{Direction}
-use Rattle.modes.specs.declared.Direction.TheVariants.{Send, Receive}
-use Rattle.modes.proofs.Blocks.{is_full}
+use Rattle.modes.specs.declared.Direction.TheVariants.{Send}
 use Rattle.modes.proofs.Paddings.{length_padded_from}
 use Rattle.link.specs.declared.Link.{Link}
 use Rattle.link.specs.Record.{view, instrument, Fits}
@@ -83,35 +82,3 @@ module _ (m : Meaning) (s : List ℕ) (l : Link) (f : Fits l) (cbc : l.mode ≡ 
         let lu : length u ≡ l.width = ap length p ∙ length_padded_from l.count (take l.width l.held) ∙ lw in
         let h = padded_held l.width l.count l.held (omega (arith, f.begun)) (omega (arith, f.thin)) in
         closing_as Send sends ∙ ap (λ t. k.enc (join t v)) (sym (take_at u rest l.width lu ∙ p ∙ h)) ∙ sym is
-
-  -- receiving: the text of the whole block held
-  module _ (receives : l.direction ≡ Receive) (text : List ℕ) (last : l.width ≤ l.count)
-      (is : take l.width text ≡ part (k.dec (take l.width l.held)) v) (n : ℕ) (found : Some n ≡ text_end (take (l.width - 0) text))
-      (law : Unpadded (take (l.width - 0) text) (take n (take (l.width - 0) text))) where
-    whole_held : l.count ≡ l.width
-    whole_held = let e = limit_as l Cbc Receive cbc receives in omega (arith, f.begun)
-
-    text_is : last_text k (view l) ≡ take (l.width - 0) text
-    text_is =
-        let z : l.width - 0 ≡ l.width = omega arith in
-        ap (λ j. part (k.dec (take j l.held)) v) whole_held ∙ sym is ∙ ap (λ j. take j text) (sym z)
-
-    end_is : text_end (last_text k (view l)) ≡ Some n
-    end_is = ap text_end text_is ∙ sym found
-
-    pub end_low : n < length (take (l.width - 0) text)
-    end_low = omega (arith, length-take n (take (l.width - 0) text), simp length-append at (ap length law.is))
-
-    pub text_whole : ragged l.mode l.direction k (view l) ≡ false
-    text_whole =
-        let held_long : length (take l.count l.held) ≡ l.width = length-take-le l.count l.held (omega (arith, f.thin, whole_held)) ∙ whole_held in
-        ragged_as Receive receives ∙ ap not (is_full k (take l.count l.held) held_long)
-
-    pub text_marked : bare l.mode l.direction k (view l) ≡ false
-    text_marked = bare_as Receive receives ∙ ap (λ o. not (is_some o)) end_is
-
-    pub receive_closing : link_closing m s l ≡ take n (take (l.width - 0) text)
-    receive_closing = closing_as Receive receives ∙ ap₂ before end_is text_is
-
-    pub receive_count : length (link_closing m s l) ≡ n
-    receive_count = ap length receive_closing ∙ length-take-le n (take (l.width - 0) text) (omega (arith, end_low))

@@ -1,12 +1,12 @@
 -- A piece, byte after byte. Assumes nothing.
-use Rattle.std.proofs.Common.{◌≡◌, ℕ, ◌+◌, ◌<◌, ◌≤◌, List, [], ◌∷◌, ◌++◌, length, get_or, take, drop, sym, refl, ap, ◌∙◌, subst, append-nil, arith, length-append, take-append-drop}
+use Rattle.std.proofs.Common.{◌≡◌, ℕ, ◌+◌, ◌<◌, ◌≤◌, List, [], ◌∷◌, ◌++◌, length, get_or, take, drop, sym, refl, ap, ◌∙◌, append-nil, arith, length-append, take-append-drop}
 use borrow.Rule.Slice.PartMut.{put_mid}
-use Rattle.std.proofs.lemmas.List.{take_more, take_all, length-drop}
+use Rattle.std.proofs.lemmas.List.{take_more, length-drop}
 use Rattle.kit.specs.Meaning.{Meaning}
 use Rattle.modes.specs.Machine.{fed, due, given}
 use Rattle.modes.proofs.Pieces.{after_append, given_append}
 use Rattle.link.specs.declared.Link.{Link}
-use Rattle.link.specs.Record.{view, instrument, Fits, Kept}
+use Rattle.link.specs.Record.{view, instrument, Kept}
 use Rattle.link.specs.Calls.{overwritten, link_fed, link_due, link_after, link_given, Took, Fed}
 use Rattle.link.proofs.Parts.{overwritten_more}
 
@@ -21,10 +21,6 @@ module _ (m : Meaning) (s : List ℕ) (l l₁ : Link) (q : Kept l l₁) where
   kept_trans : (l₂ : Link) → Kept l₁ l₂ → Kept l l₂
   kept_trans l₂ r =
       record { stays = r.stays ∙ q.stays; mode = r.mode ∙ q.mode; direction = r.direction ∙ q.direction; key = r.key ∙ q.key; width = r.width ∙ q.width }
-
-pub fed_none : (m : Meaning) (s : List ℕ) (l : Link) (out : List ℕ) → Fits l → Fed m s l [] out 0 l out
-fed_none m s l out f =
-    record { count = refl; output = refl; state = refl; fits = f; kept = record { stays = refl; mode = refl; direction = refl; key = refl; width = refl } }
 
 module _ (m : Meaning) (s : List ℕ) (l : Link) (piece out : List ℕ) (i at : ℕ) (l₁ : Link) (out₁ : List ℕ) (f : Fed m s l (take i piece) out at l₁ out₁) where
   -- the bytes given by the front of a piece are not more than those of the whole
@@ -58,9 +54,6 @@ module _ (m : Meaning) (s : List ℕ) (l : Link) (piece out : List ℕ) (i at : 
     pub room : length (link_given m s l piece) ≤ length out → length out₁ ≡ length out → (part : List ℕ) → part ≡ drop at out₁ → length (link_due m s l₁ x) ≤ length part
     room h e part p = omega (arith, due_count_is, front_count (i + 1), ap length p, length-drop at out₁)
 
-    pub sum_within : length (link_given m s l piece) ≤ length out → length out₁ ≡ length out → (n : ℕ) → n ≡ length (link_due m s l₁ x) → at + n ≤ length out₁
-    sum_within h e n c = omega (arith, due_count_is, front_count (i + 1))
-
     pub fed_more : (n k : ℕ) (l₂ : Link) (part part' : List ℕ) → part ≡ drop at out₁ → at + k ≡ length out₁ → Took m s l₁ x part n l₂ part'
         → Fed m s l (take (i + 1) piece) out (at + n) l₂ (put_mid at k out₁ part')
     fed_more n k l₂ part part' p long t =
@@ -79,6 +72,3 @@ module _ (m : Meaning) (s : List ℕ) (l : Link) (piece out : List ℕ) (i at : 
           fits = t.fits;
           kept = kept_trans m s l l₁ f.kept l₂ t.kept;
         }
-
-  pub fed_all : length piece ≤ i → Fed m s l piece out at l₁ out₁
-  fed_all h = subst (λ z. Fed m s l z out at l₁ out₁) (take_all i piece h) f

@@ -1,13 +1,8 @@
 -- Lists that the code writes in place. Assumes nothing.
-use Rattle.std.proofs.Common.{◌≡◌, ℕ, ◌+◌, ◌-◌, ◌<◌, List, [], ◌∷◌, ◌++◌, length, take, drop, set, replicate, sym, refl, ap, ◌∙◌, ap₂, append_assoc, append-nil, arith, length-append}
+use Rattle.std.proofs.Common.{◌≡◌, ℕ, ◌+◌, ◌-◌, List, [], ◌++◌, length, take, drop, replicate, sym, ap, ◌∙◌, ap₂, append_assoc, append-nil, arith, length-append}
 use borrow.Rule.Slice.PartMut.{put_mid, post_of}
 use Rattle.std.proofs.lemmas.List.{take_at, drop_at, drop-drop, drop_all, length-drop, drop-replicate}
 use Rattle.link.specs.Calls.{overwritten}
-
--- a write to the first place
-pub set_front : (out : List ℕ) (y : ℕ) → 0 < length out → set out 0 y ≡ overwritten out (y ∷ [])
-set_front [] y l = absurd (omega arith)
-set_front (z ∷ out) y l = refl
 
 -- one place of the output further, after g the bytes d
 pub overwritten_more : (out g d : List ℕ) (at k : ℕ) → at ≡ length g → at + k ≡ length (overwritten out g)

@@ -71,6 +71,7 @@ impl Link {
 pub fn mix_byte(direction: Direction, x: u8, pad: u8) -> u8
     ensures { result ≡ mixed_byte direction x pad }
 {
+    // a match: a closure passed in for a direction would be chosen by this same match
     match direction {
         Direction::Send => join_byte(x, pad),
         Direction::Receive => part_byte(x, pad),
@@ -81,6 +82,7 @@ pub fn mix_byte(direction: Direction, x: u8, pad: u8) -> u8
 pub fn coded_byte(direction: Direction, given: u8, taken: u8) -> u8
     ensures { result ≡ cipher_byte direction given taken }
 {
+    // a match between two values: nothing is called that could be passed in
     match direction {
         Direction::Send => given,
         Direction::Receive => taken,

@@ -93,6 +93,7 @@ impl Link {
         ensures count { result ≡ due_count self.now.mode self.now.direction self.now.width self.now.count n }
         ensures gives { Gives self.now n result }
     {
+        // no closure for a count: the same match on the record's own mode would choose it
         match (self.mode, self.direction) {
             (Mode::Cbc, Direction::Send) => (self.count + n) / self.width * self.width,
             (Mode::Cbc, Direction::Receive) => (self.count + n).saturating_sub(1) / self.width
@@ -113,6 +114,7 @@ impl Link {
         requires room { Room (K.Kit.meaning kit.now) schedule.now self.old call (length out.old) }
         ensures { Stepped (K.Kit.meaning kit.now) schedule.now self.old call out.old result self.new out.new }
     {
+        // no closure or `dyn` for a step: the same match on the record's own mode would choose it
         match (self.mode, self.direction, call) {
             // a piece is taken without this arm; it stays, since a step is any call
             (_, _, Call::Byte(x)) => Ok(self.take(kit, schedule, x, out)),

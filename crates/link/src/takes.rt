@@ -20,6 +20,7 @@ impl Link {
         requires room { length (link_due (K.Kit.meaning kit.now) schedule.now self.old x) ≤ length out.old }
         ensures { Took (K.Kit.meaning kit.now) schedule.now self.old x out.old result self.new out.new }
     {
+        // no closure or `dyn` for a step: the same match on the record's own mode would choose it
         match (self.mode, self.direction) {
             (Mode::Cbc, Direction::Send) => self.send_byte(kit, schedule, x, out),
             (Mode::Cbc, Direction::Receive) => self.receive_byte(kit, schedule, x, out),

@@ -3,7 +3,7 @@
 ghost use Rattle.std.specs.Prelude.{◌≡◌, ◌≤◌, sum};
 ghost use Rattle.shelf.specs.Links.{firsts, lasts, lens, Within, Apart, Ends};
 
-// A row of linked cells: where it begins, where it ends, and how long it is.
+// A row of linked cells: where it begins, where it ends, and how long it is. No `Option` for an empty one: its length tells that.
 #[derive(Clone, Copy)]
 pub(super) struct Row {
     pub(super) first: u8,
