@@ -1,5 +1,5 @@
 -- The loops over the round keys of a schedule, from the first and from the last. Assumes nothing.
-use Rattle.std.proofs.Common.{◌≡◌, ℕ, zero, suc, ◌*◌, ◌%◌, ◌<◌, ◌≤◌, List, [], ◌++◌, length, take, drop, sym, ap, ◌∙◌, ap₂, suc-mul, zero-mul, arith, length-append, append_assoc}
+use Rattle.std.proofs.Common.{◌≡◌, ℕ, zero, suc, ◌+◌, ◌-◌, ◌*◌, ◌%◌, ◌<◌, ◌≤◌, List, [], ◌++◌, length, take, drop, sym, ap, ◌∙◌, ap₂, suc-mul, zero-mul, arith, length-append, append_assoc}
 use Rattle.std.proofs.Math.Nat.{mul-mod_left}
 use Rattle.std.proofs.lemmas.List.{take_at, take_all, drop_at, nil_from_length, take-append-drop, take-append-le, drop-append-le, length-drop, length-take-le}
 use Rattle.block.specs.Bytes.{xor}
@@ -84,10 +84,11 @@ pub behind_more : (t : ℕ) (m : List (List ℕ)) (rest b end key more : List �
 behind_more t m rest b end key more h e lk k = behind_by t m rest b end key more h e lk k.n k.long k.ends
 
 -- before the last round is undone
-pub behind_all : (t : ℕ) (m : List (List ℕ)) (n : ℕ) (keys rounds post rem rest b : List ℕ) → rounds ≡ take (n * (8 * t)) keys → post ≡ drop (n * (8 * t)) keys
-    → n * (8 * t) ≤ length keys → rounds ≡ rem ++ rest → length rem ≡ length rounds % (8 * t) → Behind t m rest (xor b post) (decipher t m n keys b)
-behind_all t m n keys rounds post rem rest b er ep h parts rl =
-    let long : length rounds ≡ n * (8 * t) = ap length er ∙ length-take-le (n * (8 * t)) keys h in
+pub behind_all : (t : ℕ) (m : List (List ℕ)) (n : ℕ) (keys rounds post rem rest b : List ℕ) → length keys ≡ n * (8 * t) + 4 * t
+    → rounds ≡ take (length keys - 4 * t) keys → post ≡ drop (length keys - 4 * t) keys
+    → rounds ≡ rem ++ rest → length rem ≡ length rounds % (8 * t) → Behind t m rest (xor b post) (decipher t m n keys b)
+behind_all t m n keys rounds post rem rest b h er ep parts rl =
+    let long : length rounds ≡ n * (8 * t) = ap length er ∙ length-take-le (length keys - 4 * t) keys (omega arith) ∙ omega arith in
     let none : rem ≡ [] = nil_from_length rem (rl ∙ ap (λ k. k % (8 * t)) long ∙ mul-mod_left n (8 * t)) in
     let is : rounds ≡ rest = parts ∙ ap (λ l. l ++ rest) none in
     record {
@@ -95,5 +96,5 @@ behind_all t m n keys rounds post rem rest b er ep h parts rl =
       long = ap length (sym is) ∙ long;
       ends =
           ap (λ l. undone t m n l (xor b post)) (sym is) ∙ deciphers t m n rounds post b long
-          ∙ ap (λ l. decipher t m n l b) (ap₂ ◌++◌ er ep ∙ take-append-drop (n * (8 * t)) keys);
+          ∙ ap (λ l. decipher t m n l b) (ap₂ ◌++◌ er ep ∙ take-append-drop (length keys - 4 * t) keys);
     }

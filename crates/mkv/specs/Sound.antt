@@ -1,12 +1,16 @@
 -- MKV is sound as a kit, at both widths at once. Assumes nothing.
-use Rattle.std.specs.Prelude.{◌≡◌, ℕ, ◌+◌, ◌*◌, ◌/◌, ◌≤◌, cond, ◌⊎◌, List, [], length, Some, None, Ok, Option, ◌==◌, ◌≢◌}
+use Rattle.std.specs.Prelude.{◌≡◌, ℕ, ◌+◌, ◌*◌, ◌/◌, ◌≤◌, cond, ◌⊎◌, List, [], length, Some, None, Ok, Err, Option, Result, ◌==◌, ◌≢◌, refl}
 use Rattle.std.proofs.Common.{sym, ap, ◌∙◌, subst, inl, inr, arith}
 use Rattle.std.proofs.lemmas.Bool.{cases_eq, eq-eqb, ne_eqb, cond-true, cond-false}
+use Rattle.refusal.specs.declared.KeyFault.{KeyFault}
+use Rattle.refusal.specs.Checks.{first}
 use Rattle.block.specs.Bytes.{Bytes, Block}
+use Rattle.kit.specs.Calls.{expand_checks}
+use Rattle.kit.proofs.Calls.{cells_due}
 use Rattle.kit.specs.Meaning.{Sized, Sound}
 use Rattle.mkv.specs.Cipher.{encipher, decipher}
 use Rattle.mkv.specs.Keys.{schedule as round_keys}
-use Rattle.mkv.specs.Versions.{rounds, cells, under, mkv}
+use Rattle.mkv.specs.Versions.{rounds, cells, need, under, mkv}
 use Rattle.mkv.specs.StepsLemmas.{Inverse}
 use Rattle.mkv.specs.CipherLemmas.{Keys, block_encipher, block_decipher, decipher_undoes, encipher_undoes}
 use Rattle.mkv.specs.KeysLemmas.{block_schedule}
@@ -74,6 +78,28 @@ cells_few t r (inr e) h = rw e (omega arith, omega arith)
 
 pub keys_sized : (t len k r : ℕ) → Words t → rounds t len ≡ Some r → cells t len (rounds t len) ≡ Ok k → 16 * k ≡ r * (8 * t) + 4 * t
 keys_sized t len k r w q e = ap (λ n. 16 * n) (needs_by t len k r q e) ∙ cells_hold t r w
+
+-- a schedule that is not refused has two blocks for each round of its key, and the post key
+pub record Fitted (t len out : ℕ) : Type 0 where
+  pub whole : out ≡ out / (8 * t) * (8 * t) + 4 * t
+  pub few : out / (8 * t) ≤ 8
+  pub low : 4 * t ≤ len
+  pub high : len ≤ 8 * t
+
+rounds_in : (t r out : ℕ) → Words t → out ≡ r * (8 * t) + 4 * t → out / (8 * t) ≡ r
+rounds_in t r out (inl e) = rw e (λ h. omega arith)
+rounds_in t r out (inr e) = rw e (λ h. omega arith)
+
+fitted_by : (t len out : ℕ) → Words t → (n : Result ℕ KeyFault) → need t len ≡ n → first (expand_checks n out) ≡ None → Fitted t len out
+fitted_by t len out w (Ok k) e f =
+    let h = taken t len k e in
+    let size = cells_due k out f ∙ keys_sized t len k h.r w h.is e in
+    let n = rounds_in t h.r out w size in
+    record { whole = rw n size; few = rw n h.few; low = h.low; high = h.high }
+fitted_by t len out w (Err fault) e f = let z : ◌≡◌ {A = ℕ} 0 1 = cc in absurd (omega arith)
+
+pub fitted : (t len out : ℕ) → Words t → first (expand_checks (need t len) out) ≡ None → Fitted t len out
+fitted t len out w e = fitted_by t len out w (need t len) refl e
 
 module _ (t : ℕ) (m n : List (List ℕ)) (w : Words t) (u : Inverse t m n) where
   enc_is : (len r : ℕ) (s b : List ℕ) → rounds t len ≡ Some r → (mkv t m n).enc len s b ≡ encipher t m r s b

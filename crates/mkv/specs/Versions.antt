@@ -1,6 +1,7 @@
 -- MKV as a kit, with words of t bytes, and its two widths. Assumes nothing.
 use Rattle.std.specs.Prelude.{ℕ, ◌+◌, ◌*◌, ◌/◌, cond, List, [], length, Some, None, Ok, Err, Option, Result, ◌==◌}
 use Rattle.refusal.specs.declared.KeyFault.{KeyFault}
+use Rattle.refusal.specs.Faults.{here}
 use Rattle.kit.specs.Meaning.{Meaning}
 use Rattle.field.specs.Known.{m4, m4_inverse, m8, m8_inverse}
 use Rattle.mkv.specs.Cipher.{encipher, decipher}
@@ -13,7 +14,7 @@ rounds t len = cond (len == 4 * t) (Some 6) (cond (len == 6 * t) (Some 7) (cond 
 -- two blocks a round and the post key, in cells of 16 bytes; another length is refused right here
 abbrev pub cells : ℕ → ℕ → Option ℕ → Result ℕ KeyFault
 cells t len (Some r) = Ok ((2 * r + 1) * (t / 4))
-cells t len None = Err (record { depth = 0; length = len })
+cells t len None = Err (here len)
 
 -- with the rounds of the key, where its length is taken
 abbrev pub under : Option ℕ → (ℕ → List ℕ) → List ℕ → List ℕ

@@ -3,10 +3,10 @@
 // Rests on the interface (kit), the round (round) and the key schedule (schedule).
 #![tactic(auto)]
 
-ghost use Rattle.std.specs.Prelude.{◌≡◌, ◌+◌, ◌*◌, length, IfOk, Some};
+ghost use Rattle.std.specs.Prelude.{◌≡◌, ◌*◌, length};
 ghost use Rattle.refusal.specs.Checks.{first, refusal};
 ghost use Rattle.block.specs.Table.{sub};
-ghost use Rattle.kit.specs.Calls.{told, unless, expand_checks, expand_refusal, cipher_refusal, expanded, enciphered, deciphered};
+ghost use Rattle.kit.specs.Calls.{told, unless, expand_refusal, cipher_refusal, expanded, enciphered, deciphered};
 ghost use Rattle.mkv.specs.Tables.{Tables};
 ghost use Rattle.mkv.specs.Trace.{stepped, forth, stepped_at, at_width, at_width_back, step_checks, StepsMakeRounds};
 ghost use Rattle.mkv.specs.Meant.{meant};
@@ -15,7 +15,7 @@ ghost use Rattle.mkv.specs.Widths.{sound_128, sound_256};
 ghost use Rattle.std.proofs.Common.{rules};
 
 use block::{substitute, xor_whole};
-use kit::{Kit, Narrow, Wide};
+use kit::{Kit, Narrow, Wide, fitting};
 use refusal::{KeyFault, Refusal};
 use round::{mix_words, run_rounds, undo_rounds, x_words};
 use schedule::write_schedule;
@@ -112,25 +112,13 @@ impl<const T: usize> Version<T> {
         Ok((2 * rounds + 1) * (T / 4))
     }
 
-    // The rounds for a key of `len` bytes and a schedule of so many.
-    fn rounds_at(&self, len: usize, schedule: usize) -> Result<usize, Refusal>
-        ensures outcome { refusal result ≡ first (expand_checks (needed T len) schedule) }
-        ensures passed { IfOk result (λ n. (rounds_of T len ≡ Some n) × (schedule ≡ n * (8 * T) + 4 * T)) }
-    {
-        let rounds = self.rounds(len).ok_or(KeyFault::here(len))?;
-        if schedule != (2 * rounds + 1) * (4 * T) {
-            return Err(Refusal::Block);
-        }
-        Ok(rounds)
-    }
-
     // Writes the schedule of `key`.
     fn expand(&self, key: &[u8], schedule: &mut [u8]) -> Result<(), Refusal>
         ensures outcome { refusal result ≡ expand_refusal (meant T self.now) key.now schedule.old }
         ensures written { schedule.new ≡ expanded (meant T self.now) key.now schedule.old }
     {
-        let rounds = self.rounds_at(key.len(), schedule.len())?;
-        write_schedule(&self.matrix, rounds, key, schedule);
+        fitting(self.need(key.len())?, schedule.len())?;
+        write_schedule(&self.matrix, key, schedule);
         Ok(())
     }
 
@@ -139,11 +127,11 @@ impl<const T: usize> Version<T> {
         ensures outcome { refusal result ≡ cipher_refusal (meant T self.now) len schedule.now block.old }
         ensures written { block.new ≡ enciphered (meant T self.now) len schedule.now block.old }
     {
-        let rounds = self.rounds_at(len, schedule.len())?;
+        fitting(self.need(len)?, schedule.len())?;
         if block.len() != 4 * T {
             return Err(Refusal::Block);
         }
-        run_rounds(&self.matrix, rounds, schedule, block);
+        run_rounds(&self.matrix, schedule, block);
         Ok(())
     }
 
@@ -151,11 +139,11 @@ impl<const T: usize> Version<T> {
         ensures outcome { refusal result ≡ cipher_refusal (meant T self.now) len schedule.now block.old }
         ensures written { block.new ≡ deciphered (meant T self.now) len schedule.now block.old }
     {
-        let rounds = self.rounds_at(len, schedule.len())?;
+        fitting(self.need(len)?, schedule.len())?;
         if block.len() != 4 * T {
             return Err(Refusal::Block);
         }
-        undo_rounds(&self.inverse, rounds, schedule, block);
+        undo_rounds(&self.inverse, schedule, block);
         Ok(())
     }
 }

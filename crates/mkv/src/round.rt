@@ -2,7 +2,7 @@
 // Promises each step, round and run of rounds as the standard defines it.
 // Rests on products of bytes (field) and on XOR and substitution (block).
 // Blocks stay slices, with a clause for their length: of a slice written as arrays of T no proof knows what it ends as.
-ghost use Rattle.std.specs.Prelude.{◌≡◌, ◌+◌, ◌*◌, ◌<◌, length};
+ghost use Rattle.std.specs.Prelude.{◌≡◌, ◌+◌, ◌*◌, ◌/◌, ◌<◌, length};
 ghost use Rattle.mkv.specs.Steps.{sub_cells, sub_cells_back, mix_words, x_words, round as one_round, round_back};
 ghost use Rattle.mkv.specs.Cipher.{encipher, decipher};
 
@@ -67,27 +67,27 @@ fn undo_round<const T: usize>(m: &Matrix<T>, key: &[u8], block: &mut [u8])
     xor_whole(block, first);
 }
 
-// `count` rounds, and then the post key.
-pub fn run_rounds<const T: usize>(m: &Matrix<T>, count: usize, keys: &[u8], block: &mut [u8])
-    requires schedule { length keys.now ≡ count * (8 * T) + 4 * T }
+// A round for each round key of `keys`, and then the post key, the last block of `keys`.
+pub fn run_rounds<const T: usize>(m: &Matrix<T>, keys: &[u8], block: &mut [u8])
+    requires schedule { length keys.now ≡ length keys.now / (8 * T) * (8 * T) + 4 * T }
     requires width { length block.old ≡ 4 * T }
-    ensures { block.new ≡ encipher T m.now.rows count keys.now block.old }
+    ensures { block.new ≡ encipher T m.now.rows (length keys.now / (8 * T)) keys.now block.old }
 {
-    let (rounds, post) = keys.split_at(count * (8 * T));
+    let (rounds, post) = keys.split_at(keys.len() - 4 * T);
     for key in rounds.chunks_exact(8 * T) {
         round(m, key, block);
     }
     xor_whole(block, post);
 }
 
-// The post key, and then `count` rounds undone, the last first.
+// The post key, and then the rounds undone, the last first.
 // Not one function with `run_rounds`: post key and round keys come from the other end, so only the split would be shared.
-pub fn undo_rounds<const T: usize>(m: &Matrix<T>, count: usize, keys: &[u8], block: &mut [u8])
-    requires schedule { length keys.now ≡ count * (8 * T) + 4 * T }
+pub fn undo_rounds<const T: usize>(m: &Matrix<T>, keys: &[u8], block: &mut [u8])
+    requires schedule { length keys.now ≡ length keys.now / (8 * T) * (8 * T) + 4 * T }
     requires width { length block.old ≡ 4 * T }
-    ensures { block.new ≡ decipher T m.now.rows count keys.now block.old }
+    ensures { block.new ≡ decipher T m.now.rows (length keys.now / (8 * T)) keys.now block.old }
 {
-    let (rounds, post) = keys.split_at(count * (8 * T));
+    let (rounds, post) = keys.split_at(keys.len() - 4 * T);
     xor_whole(block, post);
     for key in rounds.rchunks_exact(8 * T) {
         undo_round(m, key, block);

@@ -1,7 +1,7 @@
 // MKV's key schedule at words of T bytes.
 // Promises the schedule that the standard fixes for a key.
 // Rests on the round.
-ghost use Rattle.std.specs.Prelude.{◌≡◌, ◌+◌, ◌-◌, ◌*◌, ◌<◌, ◌≤◌, length, map, take, drop};
+ghost use Rattle.std.specs.Prelude.{◌≡◌, ◌+◌, ◌-◌, ◌*◌, ◌/◌, ◌<◌, ◌≤◌, length, map, take, drop};
 ghost use Rattle.mkv.specs.Keys.{stirred, next_left, next_right, start_left, start_right, schedule as scheduled};
 
 use crate::round::round;
@@ -55,19 +55,19 @@ fn start<const T: usize>(key: &[u8], state: &mut [u8])
     complement(filled);
 }
 
-// Writes the schedule of `count` rounds.
-pub fn write_schedule<const T: usize>(m: &Matrix<T>, count: usize, key: &[u8], out: &mut [u8])
-    requires rounds { count ≤ 8 }
+// Writes the schedule of as many rounds as `out` has room for.
+pub fn write_schedule<const T: usize>(m: &Matrix<T>, key: &[u8], out: &mut [u8])
+    requires rounds { length out.old / (8 * T) ≤ 8 }
     requires keys { (4 * T ≤ length key.now) × (length key.now ≤ 8 * T) }
-    requires room { length out.old ≡ 4 * T + count * (8 * T) }
-    ensures { out.new ≡ scheduled T m.now.rows count key.now }
+    requires room { length out.old ≡ length out.old / (8 * T) * (8 * T) + 4 * T }
+    ensures { out.new ≡ scheduled T m.now.rows (length out.old / (8 * T)) key.now }
 {
     let mut state = [[0; T]; 8];
     let state = state.as_flattened_mut();
     start::<T>(key, state);
     out[..4 * T].copy_from_slice(&state[..4 * T]);
     // by index: after `chunks_exact_mut` no proof knows what was written
-    for i in 0..count {
+    for i in 0..out.len() / (8 * T) {
         update(m, i as u8 + 1, state);
         let at = 4 * T + i * (8 * T);
         out[at..at + 8 * T].copy_from_slice(state);

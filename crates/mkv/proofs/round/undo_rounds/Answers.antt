@@ -1,4 +1,4 @@
-use Rattle.std.proofs.Common.{◌∙◌, arith}
+use Rattle.std.proofs.Common.{◌*◌, ◌/◌, length, ◌∙◌, arith}
 use Rattle.mkv.proofs.Rounds.{behind_more, behind_all}
 use Rattle.mkv.proofs.round.undo_rounds.Goals as goal
 
@@ -7,8 +7,9 @@ loop-key-init g c =
     let is = c.into_iter-key-iterator.ensures.into_iter_gives in
     let chunks = c.rchunks_exact-key-items.ensures in
     let items = c.rchunks_exact-key-items.result in
-    let all = behind_all g.row.T c.args.m.now.rows c.args.count c.args.keys.now c.split_at.result.0.now c.split_at.result.1.now items.rem.now items.rest.now c.args.block.now
-    c.split_at.ensures.front c.split_at.ensures.back (omega arith) chunks.parts chunks.remainder_len in
+    let keys = c.args.keys.now in
+    let all = behind_all g.row.T c.args.m.now.rows (length keys / (8 * g.row.T)) keys c.split_at.result.0.now c.split_at.result.1.now items.rem.now items.rest.now c.args.block.now
+    c.requires.schedule c.split_at.ensures.front c.split_at.ensures.back chunks.parts chunks.remainder_len in
     (rw is chunks.size, rw (is, c.xor_whole.ensures) all)
 
 pub loop-key-preserved : goal.loop-key-preserved
