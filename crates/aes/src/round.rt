@@ -13,6 +13,8 @@ use std::array;
 pub const POLY: u8 = 0x1B;
 
 #[tactic(auto, unfolding(crate::specs::Tables::s_box, crate::specs::Steps::sub_bytes))]
+// The steps, each one call under the standard's name, with the table, the turn or the matrix of its direction.
+
 pub fn sub_bytes(block: &mut [u8; 16])
     ensures { block.new ≡ sub_bytes block.old }
 {
@@ -112,6 +114,7 @@ fn inv_last_round(key: &[u8; 16], state: &mut [u8; 16])
 }
 
 // Round key 0, and then a round with each further round key, the last without MixColumns.
+// By index and not by a pattern `[first, middle @ .., last]`, which would add a case that never comes.
 pub fn run_rounds(schedule: &[u8], block: &mut [u8; 16])
     requires { 2 ≤ length schedule.now / 16 }
     ensures { block.new ≡ encipher (length schedule.now / 16 - 1) schedule.now block.old }

@@ -7,7 +7,7 @@ ghost use Rattle.bank_calls.specs.Table.{at};
 use link::Link;
 use shelf::{KeyCell, Shelf};
 
-// How many links a bank has.
+// How many links a bank has: a table of fixed memory, since firmware has no heap.
 pub(super) const LINKS: usize = 8;
 
 #[derive(Drop)]

@@ -2,7 +2,8 @@
 use Rattle.std.proofs.Common.{◌≡◌, ℕ, ◌<◌, List, [], ◌∷◌, ◌++◌, length, take, drop, sym, refl, ap, ◌∙◌, ap₂, append-nil, arith, length-append}
 use Rattle.std.proofs.lemmas.List.{take_at, drop_at}
 use Rattle.modes.specs.Modes.{Cipher, onward, Sends, Chain, ends, goes, Cut, none, short, whole}
-use Rattle.modes.specs.Laws.{concat, OneCiphertext}
+use Rattle.std.specs.List.{concat}
+use Rattle.modes.specs.Laws.{OneCiphertext}
 use Rattle.modes.specs.declared.Mode.{Mode}
 
 pub cut_concat : {m : Mode} {w : ℕ} {t : List ℕ} {bs : List (List ℕ)} → Cut m w t bs → t ≡ concat bs

@@ -2,7 +2,8 @@
 use Rattle.std.proofs.Common.{◌≡◌, ℕ, List, [], ◌∷◌, ◌++◌, sym, refl, ap, ◌∙◌, append_assoc}
 use Rattle.modes.specs.Modes.{Cipher}
 use Rattle.modes.specs.Machine.{State, fed, due, after, given}
-use Rattle.modes.specs.Laws.{concat, Joins, PiecesJoin}
+use Rattle.std.specs.List.{concat}
+use Rattle.modes.specs.Laws.{Joins, PiecesJoin}
 use Rattle.modes.specs.declared.Mode.{Mode}
 use Rattle.modes.specs.declared.Direction.{Direction}
 

@@ -6,7 +6,8 @@ use Rattle.modes.specs.Join.{join, part}
 use Rattle.modes.specs.Padding.{padding, text_end}
 use Rattle.modes.specs.Modes.{Cipher, plain_block, Sends, Receives, Chain, ends, goes, Streams, cfb, ofb, Cut, none, short, whole, Plaintext}
 use Rattle.modes.specs.Machine.{State, state, opened, after, given, after_pieces, given_pieces, last_text, before}
-use Rattle.modes.specs.Laws.{Agrees, concat, Returned, ReceivingInverts, ReceivesPlaintext, ReceivesCiphertext}
+use Rattle.std.specs.List.{concat}
+use Rattle.modes.specs.Laws.{Agrees, Returned, ReceivingInverts, ReceivesPlaintext, ReceivesCiphertext}
 use Rattle.modes.specs.declared.Mode.{Mode}
 use Rattle.modes.specs.declared.Mode.TheVariants.{Cbc, Cfb, Ofb}
 use Rattle.modes.specs.declared.Direction.TheVariants.{Receive}

@@ -1,5 +1,7 @@
 -- What holds of links over every cipher, in the words of Modes. Assumes nothing.
+-- Of std, `concat`: pieces or blocks joined.
 use Rattle.std.specs.Prelude.{◌≡◌, ℕ, ◌<◌, false, List, [], ◌∷◌, ◌++◌, length}
+use Rattle.std.specs.List.{concat}
 use Rattle.block.specs.Bytes.{Bytes, Block}
 use Rattle.modes.specs.Modes.{Cipher, Ciphertext, Plaintext}
 use Rattle.modes.specs.Machine.{State, opened, after, given, after_pieces, given_pieces, closing, ragged, bare, due_count, end_count, limit}
@@ -27,11 +29,6 @@ pub record Agrees (k k' : Cipher) : Type 0 where
   pub back : (b : List ℕ) → Block k.width b → k'.dec (k.enc b) ≡ b
 
 -- ---- pieces: what a link holds and gives depends on the bytes taken alone, however they were cut
-
--- pieces or blocks joined
-abbrev pub concat : List (List ℕ) → List ℕ
-concat [] = []
-concat (p ∷ ps) = p ++ concat ps
 
 pub record Joins (m : Mode) (d : Direction) (k : Cipher) (s : State) (pieces : List (List ℕ)) : Type 0 where
   pub holds : after_pieces m d k s pieces ≡ after m d k s (concat pieces)

@@ -38,6 +38,7 @@ impl Asked {
     pub fn read(heap: Global, words: &[String]) -> Result<Asked, Wrong> {
         let mut files = Vec::new(heap);
         let mut season = None;
+        // asked for after all words are read, so that a bad word is told first
         let mut help = false;
         let mut words = words.iter();
         while let Some(word) = words.next() {
