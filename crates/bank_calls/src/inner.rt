@@ -120,7 +120,7 @@ impl<K: Kit> Bank<K> {
         // neither is refused: the key's length, the memory and the free cells were looked at
         let _ = self.kit.expand(key, schedule);
         let _ = self.shelf.append_bytes(memory, link, schedule);
-        self.links[link] = Link::opened(mode, direction, key.len(), width, start);
+        self.links[link] = Link::opened(mode, direction, key.len(), start);
         Ok(link)
     }
 
