@@ -38,15 +38,6 @@ returns-in_err-link g c =
     let q : P _ = subst P (sym (p.1 ∙ ap Err p.2)) (record { told = told; holds = kept_same b b (unchanged b b) memory }, (unchanged b b, refl)) in
     record { scratch = search rules; outcome = q.0; link = q.1 }
 
-pub slice_bounds-schedule-end : goal.slice_bounds-schedule-end
-slice_bounds-schedule-end g c =
-    let b = c.args.self.now in
-    let m = g.K.Kit.meaning b.kit in
-    let n = c.in_ok-need.need in
-    let takes : m.need (length c.args.asked.now.key.now) ≡ Ok n = told_ok (m.need (length c.args.asked.now.key.now)) n (sym c.in_ok-need.ensures) in
-    let fit : 16 * n ≤ 1536 = omega (arith, ((g.met.K.Kit.sound b.kit).cells (length c.args.asked.now.key.now) n takes).1) in
-    fit
-
 module _ (g : given.Over) (c : After-opened g) where
   abbrev m : Meaning
   m = g.K.Kit.meaning c.args.self.now.kit

@@ -1,4 +1,4 @@
-use Rattle.std.proofs.Common.{ℕ, List, refl, subst, arith, rules}
+use Rattle.std.proofs.Common.{ℕ, List, refl, subst, rules}
 use Rattle.shelf.specs.Standing.{standing}
 use Rattle.link.specs.Calls as one
 use Rattle.bank_calls.specs.Table.{at}
@@ -6,12 +6,6 @@ use Rattle.bank_calls.proofs.Invariants.{written}
 use Rattle.bank_calls.proofs.Loads.{load_low, put_sits}
 use Rattle.bank_calls.proofs.Puts.{put_later}
 use Rattle.bank_calls.proofs.state.Bank.put_with.Goals as goal
-
-pub offset_bounds-self-link : goal.offset_bounds-self-link
-offset_bounds-self-link g c = omega (arith, load_low c.args.self.now c.args.memory.now c.args.link c.in_ok-schedule.ensures.told)
-
-pub bounds-self-link : goal.bounds-self-link
-bounds-self-link g c = load_low c.args.self.now c.args.memory.now c.args.link c.in_ok-schedule.ensures.told
 
 pub invariant_of-self : goal.invariant_of-self
 invariant_of-self g c =
