@@ -90,9 +90,6 @@ module _ {K : Type 0} (b b' : Bank K) (memory : List (List ℕ)) (i : ℕ) where
       pub later : (l.open ≡ true) × (eqb (length memory) b.shelf.book.size ≡ true) × (first (end_checks m (books b memory) (lengths_with 1536 memory out) i) ≡ first (end_tail m (lengths_with 1536 memory out) (Some (running s memory i l))))
       later = later_told (books b memory) (lengths_with 1536 memory out) (running s memory i l) (end_tail m (lengths_with 1536 memory out)) refl l.open told
 
-      pub end_refused : (e : Refusal) → one.Ends m (joined (list s memory i)) l out (Err e) out' → Kept b b' → Did (Err e)
-      end_refused e did kept = (record { told = did.told ∙ sym later.2; holds = kept_same b b' kept memory }, did.holds, kept)
-
       pub end_given : (n : ℕ) → length out' ≡ length out → one.Ends m (joined (list s memory i)) l out (Ok n) out' → Shuts b i b' → Did (Ok n)
       end_given n long did h =
           let g : List ℕ = last_bytes m (running s memory i l) in

@@ -1,5 +1,5 @@
 -- A bank that is given its cells. Assumes nothing.
-use Rattle.std.proofs.Common.{◌≡◌, ℕ, true, false, not, eqb, ltb, List, [], ◌∷◌, length, is_err, None, Ok, Err, Result, refl, ap, ◌∙◌, inl, inr, arith}
+use Rattle.std.proofs.Common.{◌≡◌, ℕ, true, false, not, eqb, ltb, List, [], ◌∷◌, length, is_err, None, Ok, Err, Result, sym, refl, ap, ◌∙◌, subst, inl, inr, arith}
 use Rattle.std.proofs.lemmas.Bool.{eqb-true, not-false, cases_Bool}
 use Rattle.refusal.specs.Checks.{first}
 use Rattle.refusal.specs.declared.Refusal.{Refusal}
@@ -15,6 +15,7 @@ use Rattle.bank_calls.specs.Seen.{books}
 use Rattle.bank_calls.specs.Calls.{Sizes}
 use Rattle.bank_calls.specs.declared.state.Bank.{Bank}
 use Rattle.bank_calls.proofs.Seen.{seen_shut}
+use Rattle.bank_calls.proofs.Invariants.{All, every, sits}
 
 -- only a bank without cells takes some
 unsized : (size n : ℕ) → None ≡ first (size_checks size n) → size ≡ 0
@@ -42,3 +43,15 @@ module _ {K : Type 0} (b b' : Bank K) (kit : b'.kit ≡ b.kit) (links : b'.links
 pub begun : {K : Type 0} (m : Meaning) (b : Bank K) (n : ℕ) (r : Result (Unit {0}) Refusal) (b' : Bank K) → Sizes b n r b' → r ≡ Ok tt → (own : List (List ℕ)) → Ran m n [] (books b' own)
 begun m b n (Ok tt) b' did e own = starts (did.holds own)
 begun m b n (Err f) b' did e own = let z : ◌≡◌ {A = ℕ} 0 1 = cc in absurd (omega arith)
+
+-- what a bank keeps holds after it: no link of a bank that takes cells is open
+pub sized_keeps : {K : Type 0} (b : Bank K) (n : ℕ) (r : Result (Unit {0}) Refusal) (s' : Standing) → Sizing (standing b.shelf.book) n r s' → All b.links s'
+sized_keeps b n (Ok done) s' did =
+    let zero = unsized b.shelf.book.size n did.told in
+    every b.links s' b.eight (λ i. record {
+      fits = b.fits i;
+      sized = λ o. absurd (omega (arith, b.sized i o, zero));
+      few = λ o. absurd (omega (arith, b.sized i o, zero));
+      shut = λ h. did.holds.none i (omega (arith, h.0));
+    })
+sized_keeps b n (Err e) s' did = let P : Standing → Type 0 = All b.links in subst P (sym did.holds) (every b.links (standing b.shelf.book) b.eight (sits b))

@@ -1,12 +1,11 @@
 // What the calls of a bank do under the scratch's guard.
-ghost use Rattle.std.specs.Prelude.{◌≡◌, ℕ, ◌<◌, ◌≤◌, true, false, ◌||◌, List, [], ◌∷◌, take, replicate, MatchOption, MatchResult, nat_lt};
+ghost use Rattle.std.specs.Prelude.{◌≡◌, ℕ, ◌<◌, true, false, List, replicate, MatchOption, MatchResult};
 ghost use Rattle.refusal.specs.Checks.{Answers};
-ghost use Rattle.refusal.specs.declared.Refusal.TheVariants.{Mode as UnknownMode};
-ghost use Rattle.shelf.specs.Standing.{standing, free as free_cells};
+ghost use Rattle.shelf.specs.Standing.{standing};
 ghost use Rattle.shelf.specs.Items.{list};
 ghost use Rattle.shelf.specs.Keys.{joined};
 ghost use Rattle.bank.specs.Books.{links};
-ghost use Rattle.bank.specs.Calls.{mode_of, direction_of, Opens, Puts, Ends};
+ghost use Rattle.bank.specs.Calls.{Opens, Puts, Ends};
 ghost use Rattle.bank_calls.specs.Table.{at};
 ghost use Rattle.bank_calls.specs.Seen.{books};
 ghost use Rattle.bank_calls.specs.Calls.{asked_with, lengths_with, gave, load_checks, room_checks, Written, Kept, Takes, Steps, Shuts};
@@ -65,19 +64,20 @@ impl<K: Kit> Bank<K> {
         Ok(link)
     }
 
-    // An open link's schedule, gathered to the front of the scratch; how many bytes it has.
-    fn load(
+    // An open link's schedule, gathered to the front of the scratch.
+    fn load<'a>(
         &self,
-        scratch: &mut [u8; SCRATCH],
+        scratch: &'a mut [u8; SCRATCH],
         memory: &[KeyCell],
         link: usize,
-    ) -> Result<usize, Refusal>
-        ensures { Answers (load_checks self.now memory.now link) result (λ n. (n ≤ 1536) × (take n scratch.new ≡ joined (list (standing self.now.shelf.book) memory.now link))) (Unit {0}) }
+    ) -> Result<&'a [u8], Refusal>
+        ensures { Answers (load_checks self.now memory.now link) result (λ schedule. schedule.now ≡ joined (list (standing self.now.shelf.book) memory.now link)) (Unit {0}) }
     {
         if !self.is_open(link) {
             return Err(Refusal::Closed);
         }
-        self.shelf.gather_bytes(memory, link, scratch)
+        let n = self.shelf.gather_bytes(memory, link, scratch)?;
+        Ok(&scratch[0..n])
     }
 
     // Closes a link: its record holds zeros, and its cells are free.
@@ -120,7 +120,7 @@ impl<K: Kit> Bank<K> {
         // neither is refused: the key's length, the memory and the free cells were looked at
         let _ = self.kit.expand(key, schedule);
         let _ = self.shelf.append_bytes(memory, link, schedule);
-        self.links[link] = Link::opened(mode, direction, key.len(), width, start);
+        self.links[link] = Link::opened(mode, direction, key.len(), start);
         Ok(link)
     }
 
@@ -140,8 +140,8 @@ impl<K: Kit> Bank<K> {
     {
         let guard = Guard { bytes: scratch };
         let scratch = &mut *guard.bytes;
-        let n = self.load(scratch, memory, link)?;
-        self.links[link].put(&self.kit, &scratch[0..n], piece, out)
+        let schedule = self.load(scratch, memory, link)?;
+        self.links[link].put(&self.kit, schedule, piece, out)
     }
 
     // Ends a link, with the scratch under guard.
@@ -159,10 +159,10 @@ impl<K: Kit> Bank<K> {
     {
         let guard = Guard { bytes: scratch };
         let scratch = &mut *guard.bytes;
-        let n = self.load(scratch, memory, link)?;
+        let schedule = self.load(scratch, memory, link)?;
         // a copy, since a call on the table's own record makes it count as written
         let record = self.links[link];
-        let given = record.end(&self.kit, &scratch[0..n], out)?;
+        let given = record.end(&self.kit, schedule, out)?;
         self.close(link);
         Ok(given)
     }

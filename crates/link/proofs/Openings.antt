@@ -21,12 +21,15 @@ abbrev made : Mode → Direction → ℕ → ℕ → List ℕ → Link
 made md d key w chain = record { «open» = true; mode = md; direction = d; key = key; width = w; chain = chain; held = replicate 32 0; count = 0 }
 
 -- u is the copy of the start block
-module _ (md : Mode) (d : Direction) (key w : ℕ) (start u : List ℕ) (copied : u ≡ start) (whole : length start ≡ w) where
+module _ (md : Mode) (d : Direction) (key : ℕ) (start u : List ℕ) (copied : u ≡ start) where
+  abbrev w : ℕ
+  w = length start
+
   pub opened_record : made md d key w (u ++ post_of 0 (w - 0) (replicate 32 0)) ≡ begun md d key w start
   opened_record = ap (made md d key w) (start_chain start u w copied)
 
   pub opened_state : view (made md d key w (u ++ post_of 0 (w - 0) (replicate 32 0))) ≡ opened start
-  opened_state = ap (λ v. state v []) (take_at u (post_of 0 (w - 0) (replicate 32 0)) w (ap length copied ∙ whole) ∙ copied)
+  opened_state = ap (λ v. state v []) (take_at u (post_of 0 (w - 0) (replicate 32 0)) w (ap length copied) ∙ copied)
 
   pub opened_fits : 1 ≤ w → w ≤ 32 → Fits (made md d key w (u ++ post_of 0 (w - 0) (replicate 32 0)))
   opened_fits p q = record { some = p; thin = q; begun = limit_some md d w p }

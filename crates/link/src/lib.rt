@@ -63,23 +63,22 @@ impl Link {
         }
     }
 
-    // A link that begins with the start block.
-    pub fn opened(mode: Mode, direction: Direction, key: usize, width: usize, start: &[u8]) -> Link
-        requires some { 1 ≤ width }
-        requires thin { width ≤ 32 }
-        requires whole { length start.now ≡ width }
-        ensures record { result ≡ begun mode direction key width start.now }
+    // A link that begins with the start block, which tells its width.
+    pub fn opened(mode: Mode, direction: Direction, key: usize, start: &[u8]) -> Link
+        requires some { 1 ≤ length start.now }
+        requires thin { length start.now ≤ 32 }
+        ensures record { result ≡ begun mode direction key (length start.now) start.now }
         ensures state { view result ≡ opens start.now }
         ensures fits { Fits result }
     {
         let mut chain = [0; 32];
-        chain[0..width].copy_from_slice(start);
+        chain[0..start.len()].copy_from_slice(start);
         Link {
             open: true,
             mode,
             direction,
             key,
-            width,
+            width: start.len(),
             chain,
             held: [0; 32],
             count: 0,
@@ -162,6 +161,7 @@ impl Link {
         requires { Fits self.now }
         ensures { Ends (K.Kit.meaning kit.now) schedule.now self.now out.old result out.new }
     {
+        // on a copy: a step writes in place, and an end leaves the record for its caller to close
         let mut link = *self;
         link.step(kit, schedule, Call::End, out)
     }

@@ -13,6 +13,7 @@ use crate::blocks::{coded_byte, mix_byte, write_front};
 use kit::Kit;
 use modes::{Direction, Mode};
 
+// Mode and direction stay premises, which the match in `take` gives: records of all modes have one layout, so no type could tell.
 impl Link {
     // Takes a byte, as mode and direction say; answers how many bytes now stand at the front of `out`.
     pub(crate) fn take<K: Kit>(&mut self, kit: &K, schedule: &[u8], x: u8, out: &mut [u8]) -> usize

@@ -6,7 +6,7 @@ returns c =
     let u = c.copy_from_slice.new.self in
     let start = c.args.start.now in
     record {
-      «record» = opened_record c.args.mode c.args.direction c.args.key c.args.width start u c.copy_from_slice.ensures.after c.requires.whole;
-      state = opened_state c.args.mode c.args.direction c.args.key c.args.width start u c.copy_from_slice.ensures.after c.requires.whole;
-      fits = opened_fits c.args.mode c.args.direction c.args.key c.args.width start u c.copy_from_slice.ensures.after c.requires.whole c.requires.some c.requires.thin;
+      «record» = opened_record c.args.mode c.args.direction c.args.key start u c.copy_from_slice.ensures.after;
+      state = opened_state c.args.mode c.args.direction c.args.key start u c.copy_from_slice.ensures.after;
+      fits = opened_fits c.args.mode c.args.direction c.args.key start u c.copy_from_slice.ensures.after c.requires.some c.requires.thin;
     }

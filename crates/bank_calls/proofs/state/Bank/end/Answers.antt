@@ -19,6 +19,16 @@ returns-in_default-clause-past g c =
     let d : length c.args.scratch.now ≡ 1536 → ⊥ = search rules in
     adds_end m b b memory i f refl (Err Scratch) (λ e is. unchanged b b) (end_unscratched b b memory i m out out f d (unchanged b b))
 
+pub returns-in-Ok-clause-outcome : goal.returns-in-Ok-clause-outcome
+returns-in-Ok-clause-outcome g c =
+    let b = c.args.self.now in
+    let b' = c.end_with.new.self in
+    let m = g.K.Kit.meaning b.kit in
+    let memory = c.args.memory.now in
+    let right : length c.args.scratch.now ≡ 1536 = search rules in
+    let P : ℕ → Type 0 = λ k. Ends m (books b memory) (lengths_with k memory c.args.out.now) c.args.ticket.link (gave (Ok c.in-Ok.given) c.end_with.new.out) (books b' memory) in
+    subst P (sym right) c.in-Ok.ensures.outcome
+
 pub returns-in-Ok-clause-scratch : goal.returns-in-Ok-clause-scratch
 returns-in-Ok-clause-scratch g c = wiped c.args.scratch.now c.end_with.new.scratch (search rules) c.in-Ok.ensures.scratch
 
@@ -35,6 +45,16 @@ returns-in-Ok-clause-past g c =
     let right : length c.args.scratch.now ≡ 1536 = search rules in
     let P : ℕ → Type 0 = λ k. Ends m (books b memory) (lengths_with k memory out) i (gave r out') (books b' memory) in
     adds_end m b b' memory i (lengths c.args.scratch.now memory out) refl (gave r out') (refused_keeps b b' (λ _. Shuts b i b') r out' c.in-Ok.ensures.link) (subst P (sym right) c.in-Ok.ensures.outcome)
+
+pub returns-in-Err-clause-outcome : goal.returns-in-Err-clause-outcome
+returns-in-Err-clause-outcome g c =
+    let b = c.args.self.now in
+    let b' = c.end_with.new.self in
+    let m = g.K.Kit.meaning b.kit in
+    let memory = c.args.memory.now in
+    let right : length c.args.scratch.now ≡ 1536 = search rules in
+    let P : ℕ → Type 0 = λ k. Ends m (books b memory) (lengths_with k memory c.args.out.now) c.args.ticket.link (gave (Err c.in-Err.refusal) c.end_with.new.out) (books b' memory) in
+    subst P (sym right) c.in-Err.ensures.outcome
 
 pub returns-in-Err-clause-scratch : goal.returns-in-Err-clause-scratch
 returns-in-Err-clause-scratch g c = wiped c.args.scratch.now c.end_with.new.scratch (search rules) c.in-Err.ensures.scratch

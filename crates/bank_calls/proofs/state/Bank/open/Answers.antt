@@ -30,6 +30,20 @@ returns-in_err-bytes-clause-past g c =
     (adds_open m b b memory memory a refl (bytes_from key (λ i. (c.type_inv.key i).fits)) (bytes_from start (λ i. (c.type_inv.start i).fits)) (Err Scratch) (λ e is. unchanged b b)
     (open_unscratched m b b memory memory a d (unchanged b b) refl))
 
+pub returns-in_err-link-clause-outcome : goal.returns-in_err-link-clause-outcome
+returns-in_err-link-clause-outcome g c =
+    let b = c.args.self.now in
+    let b' = c.open_with.new.self in
+    let m = g.K.Kit.meaning b.kit in
+    let memory = c.args.memory.now in
+    let memory' = c.open_with.new.memory in
+    let right : length c.args.scratch.now ≡ 1536 = search rules in
+    let P : ℕ → Type 0 = λ k. Opens m (books b memory) (asked_with k memory c.args.mode c.args.direction c.args.key.now c.args.start.now) (Err c.in_err-link.field-0.0) (books b' memory') in
+    let a = asked c.args.scratch.now memory c.args.mode c.args.direction c.args.key.now c.args.start.now in
+    let p = err_from_is_err_and c.from_residual-in_err-link.result c.from_residual-in_err-link.ensures.1 in
+    let Q : Result Ticket Refusal → Type 0 = λ z. Opens m (books b memory) a (number z) (books b' memory') in
+    subst Q (sym (p.1 ∙ ap Err p.2)) (subst P (sym right) c.in_err-link.ensures.outcome)
+
 pub returns-in_err-link-clause-scratch : goal.returns-in_err-link-clause-scratch
 returns-in_err-link-clause-scratch g c = wiped c.args.scratch.now c.open_with.new.scratch (search rules) c.in_err-link.ensures.scratch
 
@@ -51,6 +65,17 @@ returns-in_err-link-clause-past g c =
     let Q : Result Ticket Refusal → Type 0 = λ z. Adds m b memory (opens a (number z)) b' memory' in
     subst Q (sym (p.1 ∙ ap Err p.2))
     (adds_open m b b' memory memory' a refl (bytes_from key (λ i. (c.type_inv.key i).fits)) (bytes_from start (λ i. (c.type_inv.start i).fits)) (Err f) (λ r is. e.link.0) (subst P (sym right) e.outcome))
+
+pub returns-clause-outcome : goal.returns-clause-outcome
+returns-clause-outcome g c =
+    let b = c.args.self.now in
+    let b' = c.open_with.new.self in
+    let m = g.K.Kit.meaning b.kit in
+    let memory = c.args.memory.now in
+    let memory' = c.open_with.new.memory in
+    let right : length c.args.scratch.now ≡ 1536 = search rules in
+    let P : ℕ → Type 0 = λ k. Opens m (books b memory) (asked_with k memory c.args.mode c.args.direction c.args.key.now c.args.start.now) (Ok c.in_ok-link.link) (books b' memory') in
+    subst P (sym right) c.in_ok-link.ensures.outcome
 
 pub returns-clause-scratch : goal.returns-clause-scratch
 returns-clause-scratch g c = wiped c.args.scratch.now c.open_with.new.scratch (search rules) c.in_ok-link.ensures.scratch

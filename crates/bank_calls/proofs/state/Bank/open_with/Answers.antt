@@ -38,15 +38,6 @@ returns-in_err-link g c =
     let q : P _ = subst P (sym (p.1 ∙ ap Err p.2)) (record { told = told; holds = kept_same b b (unchanged b b) memory }, (unchanged b b, refl)) in
     record { scratch = search rules; outcome = q.0; link = q.1 }
 
-pub slice_bounds-schedule-end : goal.slice_bounds-schedule-end
-slice_bounds-schedule-end g c =
-    let b = c.args.self.now in
-    let m = g.K.Kit.meaning b.kit in
-    let n = c.in_ok-need.need in
-    let takes : m.need (length c.args.asked.now.key.now) ≡ Ok n = told_ok (m.need (length c.args.asked.now.key.now)) n (sym c.in_ok-need.ensures) in
-    let fit : 16 * n ≤ 1536 = omega (arith, ((g.met.K.Kit.sound b.kit).cells (length c.args.asked.now.key.now) n takes).1) in
-    fit
-
 module _ (g : given.Over) (c : After-opened g) where
   abbrev m : Meaning
   m = g.K.Kit.meaning c.args.self.now.kit
@@ -105,9 +96,8 @@ returns g c =
     let whole : length d.args.asked.now.start.now ≡ (m g d).width = d.if-start-width.false ∙ d.width-width.ensures ∙ sym (g.met.K.Kit.width b.kit) in
     let vacant = d.in_ok-link.ensures.holds in
     let told = d.in_ok-link.ensures.told ∙ room_alike b memory (length memory) n ∙ sym (room_told (m g d) b.shelf.book.size _ (free (standing b.shelf.book)) a refl known n (takes g d) whole) in
-    let wide : d.width-width.result ≡ (m g d).width = d.width-width.ensures ∙ sym (g.met.K.Kit.width b.kit) in
     let named = named_by a d.in_ok-mode.mode d.in_ok-direction.direction d.in_ok-mode.ensures d.in_ok-direction.ensures in
     let is : d.opened.result ≡ begun (mode_of a.mode) (direction_of a.direction) (length a.key) (m g d).width a.start =
-    d.opened.ensures.record ∙ ap₂ (λ x y. begun x y (length a.key) d.width-width.result a.start) named.0 named.1 ∙ ap (λ w. begun (mode_of a.mode) (direction_of a.direction) (length a.key) w a.start) wide in
+    d.opened.ensures.record ∙ ap₂ (λ x y. begun x y (length a.key) (length a.start) a.start) named.0 named.1 ∙ ap (λ w. begun (mode_of a.mode) (direction_of a.direction) (length a.key) w a.start) whole in
     let q = opened_both (m g d) b _ memory d.append_bytes.new.cells a i n (takes g d) vacant.0 vacant.1 (long g d) (passed g d).1 (sym (ap view is) ∙ d.opened.ensures.state) refl (ap (set b.links i) is) (grown g d) in
     record { scratch = search rules; outcome = record { told = told; holds = q.0 }; link = q.1 }

@@ -1,7 +1,5 @@
-use Rattle.std.proofs.Common.{◌≡◌, ℕ, ◌-◌, List, take, refl, ap, ◌∙◌, subst, arith, rules}
+use Rattle.std.proofs.Common.{ℕ, List, refl, subst, rules}
 use Rattle.shelf.specs.Standing.{standing}
-use Rattle.shelf.specs.Items.{list}
-use Rattle.shelf.specs.Keys.{joined}
 use Rattle.link.specs.Calls as one
 use Rattle.bank_calls.specs.Table.{at}
 use Rattle.bank_calls.proofs.Invariants.{written}
@@ -9,16 +7,10 @@ use Rattle.bank_calls.proofs.Loads.{load_low, put_sits}
 use Rattle.bank_calls.proofs.Puts.{put_later}
 use Rattle.bank_calls.proofs.state.Bank.put_with.Goals as goal
 
-pub offset_bounds-self-link : goal.offset_bounds-self-link
-offset_bounds-self-link g c = omega (arith, load_low c.args.self.now c.args.memory.now c.args.link c.in_ok-n.ensures.told)
-
-pub bounds-self-link : goal.bounds-self-link
-bounds-self-link g c = load_low c.args.self.now c.args.memory.now c.args.link c.in_ok-n.ensures.told
-
 pub invariant_of-self : goal.invariant_of-self
 invariant_of-self g c =
     let b = c.args.self.now in
-    let told = c.in_ok-n.ensures.told in
+    let told = c.in_ok-schedule.ensures.told in
     written b c.args.link c.put.new.self (standing b.shelf.book) (load_low b c.args.memory.now c.args.link told)
     (put_sits b c.args.memory.now c.args.link _ _ _ _ c.put.result c.put.new.self c.put.new.out told c.put.ensures) refl (λ d h ne. refl)
 
@@ -27,11 +19,8 @@ returns g c =
     let b = c.args.self.now in
     let memory = c.args.memory.now in
     let i = c.args.link in
-    let held = c.in_ok-n.ensures in
+    let held = c.in_ok-schedule.ensures in
     let m = g.K.Kit.meaning b.kit in
-    let n = c.in_ok-n.n in
-    let whole : n - 0 ≡ n = omega arith in
-    let schedule : take (n - 0) c.load.new.scratch ≡ joined (list (standing b.shelf.book) memory i) = ap (λ k. take k c.load.new.scratch) whole ∙ held.holds.1 in
     let P : List ℕ → Type 0 = λ s. one.Puts m s (at b.links i) c.args.piece.now c.args.out.now c.put.result c.put.new.self c.put.new.out in
-    let d = put_later m b _ memory i c.args.piece.now c.args.out.now c.put.new.out held.told c.put.new.self refl refl refl c.put.auto.out c.put.result (subst P schedule c.put.ensures) in
+    let d = put_later m b _ memory i c.args.piece.now c.args.out.now c.put.new.out held.told c.put.new.self refl refl refl c.put.auto.out c.put.result (subst P held.holds c.put.ensures) in
     record { scratch = search rules; outcome = d.0; output = d.1; link = d.2 }

@@ -1,7 +1,11 @@
 use Rattle.std.proofs.Common.{refl}
 use Rattle.bank.proofs.Law.{law}
-use Rattle.bank_calls.proofs.Sizing.{sizes, begun}
+use Rattle.shelf.specs.Standing.{standing}
+use Rattle.bank_calls.proofs.Sizing.{sizes, begun, sized_keeps}
 use Rattle.bank_calls.proofs.state.Bank.size.Goals as goal
+
+pub invariant_of-self : goal.invariant_of-self
+invariant_of-self g c = sized_keeps c.args.self.now c.args.n c.size.result (standing c.size.new.self.book) c.size.ensures.outcome
 
 pub returns : goal.returns
 returns g c =
