@@ -1,7 +1,8 @@
 -- Key cells and the bytes that make them. Assumes nothing.
-use Rattle.std.proofs.Common.{◌≡◌, ℕ, zero, suc, ◌+◌, ◌-◌, ◌*◌, ◌/◌, ◌≤◌, List, [], ◌∷◌, ◌++◌, length, take, drop, sym, refl, ap, ◌∙◌, append_assoc, arith}
+use Rattle.std.proofs.Common.{◌≡◌, ℕ, zero, suc, ◌+◌, ◌-◌, ◌*◌, ◌/◌, ◌≤◌, List, [], ◌∷◌, ◌++◌, length, take, drop, sym, refl, ap, ◌∙◌, arith}
 use borrow.Rule.Slice.PartMut.{put_mid}
 use Rattle.std.proofs.lemmas.List.{append-nil, drop-drop, length-drop, nil_from_length, take-append-drop}
+use Rattle.std.proofs.lemmas.List.Folds.{concat-append}
 use Rattle.std.proofs.lemmas.Slice.{take-put_mid, drop-put_mid}
 use Rattle.std.specs.Simd.{first_chunks}
 use Rattle.shelf.specs.Keys.{key_cells, joined}
@@ -38,8 +39,7 @@ joined_none = refl
 
 pub joined_push : (xs : List (List ℕ)) (x : List ℕ) → joined (xs ++ (x ∷ [])) ≡ joined xs ++ x
 unfolding joined
-joined_push [] x = append-nil x
-joined_push (y ∷ ys) x = ap (λ zs. y ++ zs) (joined_push ys x) ∙ sym (append_assoc y (joined ys) x)
+joined_push xs x = concat-append xs (x ∷ []) ∙ ap (λ zs. joined xs ++ zs) (append-nil x)
 
 -- one cell more, written behind the first i
 abbrev pub written : List ℕ → List ℕ → ℕ → List ℕ

@@ -22,20 +22,20 @@ pub record Empty (n : ℕ) (s : Standing) : Type 0 where
 abbrev pub Sizing : Standing → ℕ → Result (Unit {0}) Refusal → Standing → Type 0
 Sizing s n r s' = Answers (size_checks s.size n) r (λ _. Empty n s') (s' ≡ s)
 
--- ---- what every call on a chain in cell memory checks first
+-- ---- what every call on a chain checks first
 
--- of a shelf of `size` cells: chain c, in memory of `shown` items
+abbrev pub chain_checks : (c : ℕ) → List (Bool × Refusal)
+chain_checks c = (nat_lt 15 c, Chain) ∷ []
+
+-- and then, of a shelf of `size` cells: memory of `shown` items
 abbrev pub access_checks : (size shown c : ℕ) → List (Bool × Refusal)
-access_checks size shown c = (nat_lt 15 c, Chain) ∷ (not (shown == size), Memory) ∷ []
+access_checks size shown c = chain_checks c ++ ((not (shown == size), Memory) ∷ [])
 
 -- ---- count
 
-abbrev pub count_checks : (c : ℕ) → List (Bool × Refusal)
-count_checks c = (nat_lt 15 c, Chain) ∷ []
-
 -- n is how many cells chain c has
 abbrev pub Count : Standing → ℕ → Result ℕ Refusal → Type 0
-Count s c r = Answers (count_checks c) r (λ n. n ≡ length (s.chain c)) (Unit {0})
+Count s c r = Answers (chain_checks c) r (λ n. n ≡ length (s.chain c)) (Unit {0})
 
 -- ---- append
 
@@ -88,9 +88,6 @@ Gather s cells c out r out' =
 
 -- ---- drop
 
-abbrev pub drop_checks : (c : ℕ) → List (Bool × Refusal)
-drop_checks c = (nat_lt 15 c, Chain) ∷ []
-
 -- chain c has no cells now; no other chain has changed, nor the number of cells
 pub record Emptied (s : Standing) (c : ℕ) (s' : Standing) : Type 0 where
   pub none : s'.chain c ≡ []
@@ -98,4 +95,4 @@ pub record Emptied (s : Standing) (c : ℕ) (s' : Standing) : Type 0 where
   pub sized : s'.size ≡ s.size
 
 abbrev pub Drop : Standing → ℕ → Result (Unit {0}) Refusal → Standing → Type 0
-Drop s c r s' = Answers (drop_checks c) r (λ _. Emptied s c s') (s' ≡ s)
+Drop s c r s' = Answers (chain_checks c) r (λ _. Emptied s c s') (s' ≡ s)

@@ -1,5 +1,6 @@
 -- Key cells as bytes: each cell of a shelf of keys holds sixteen. Assumes nothing.
 use Rattle.std.specs.Prelude.{◌≡◌, ℕ, ◌*◌, ◌/◌, Bool, List, [], ◌∷◌, ◌++◌, length, drop, Result, nat_lt}
+use Rattle.std.specs.List.{concat}
 use Rattle.std.specs.Simd.{first_chunks}
 use Rattle.refusal.specs.Checks.{Answers}
 use Rattle.refusal.specs.declared.Refusal.{Refusal}
@@ -14,8 +15,7 @@ key_cells bytes = first_chunks 16 (length bytes / 16) bytes
 
 -- lists, one behind another
 unfoldable pub joined : List (List ℕ) → List ℕ
-joined [] = []
-joined (x ∷ xs) = x ++ joined xs
+joined cells = concat cells
 
 -- what a gather of bytes checks: a whole chain of `long` cells, to `room` bytes
 abbrev pub gather_bytes_checks : (size long shown c room : ℕ) → List (Bool × Refusal)

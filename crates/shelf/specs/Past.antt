@@ -7,7 +7,7 @@ use Rattle.refusal.specs.declared.Refusal.{Refusal}
 use Rattle.refusal.specs.declared.Refusal.TheVariants.{Position, Cells}
 use Rattle.shelf.specs.Standing.{Standing, total, free}
 use Rattle.shelf.specs.Items.{list}
-use Rattle.shelf.specs.Calls.{append_checks, read_checks, drop_checks, Empty, Append, Read, Drop}
+use Rattle.shelf.specs.Calls.{chain_checks, append_checks, read_checks, Empty, Append, Read, Drop}
 
 -- a call with its answer; `shown` is how many items the memory had that it was shown
 pub data Call (T : Type 0) : Type 0 where
@@ -52,7 +52,7 @@ abbrev pub Lawful : {T : Type 0} → ℕ → List (Call T) → Type 0
 Lawful n [] = Unit {0}
 Lawful n (append shown c items r ∷ past) = AppendDue n past shown c items r × Lawful n past
 Lawful n (read shown c p r ∷ past) = ReadDue n past shown c p r × Lawful n past
-Lawful n (drop c r ∷ past) = (refusal r ≡ first (drop_checks c)) × Lawful n past
+Lawful n (drop c r ∷ past) = (refusal r ≡ first (chain_checks c)) × Lawful n past
 
 -- ---- the pasts that a shelf may have
 

@@ -15,6 +15,7 @@ const MOST_CELLS: u16 = 256;
 
 const FREE: usize = 16;
 
+// A constant and no derived `Default`: proofs see its zeros, where a call would have to tell them first.
 const EMPTY: Row = Row {
     first: 0,
     last: 0,
@@ -28,6 +29,7 @@ fn line() -> [u8; 256]
     array::from_fn(|cell| (cell.wrapping_add(1) % 256) as u8)
 }
 
+// Chains stay plain numbers, each with `chain < 16` beside it: a type for them would be opened again at every index.
 impl ChainBook {
     // No cells, and sixteen empty chains.
     pub(super) fn new() -> ChainBook

@@ -16,9 +16,6 @@ returns-then-free-items-clause-past g c = adds_append _ _ _ _ _ _ _ (search rule
 pub loop-item-init : goal.loop-item-init
 loop-item-init g c = (grown_none (standing c.args.self.now.book) c.args.cells.now c.args.chain, omega arith)
 
-pub link-cell-requires : goal.link-cell-requires
-link-cell-requires g c = ((admitted c.args.self.now.book.size (length c.args.cells.now) c.args.chain c.in_ok-admit.ensures).0, omega (arith, c.loop-item.invariant.1, c.free.ensures))
-
 pub loop-item-preserved : goal.loop-item-preserved
 loop-item-preserved g c =
     let b = c.args.self.now.book in
