@@ -67,6 +67,7 @@ pub fn write_schedule<const T: usize>(m: &Matrix<T>, key: &[u8], out: &mut [u8])
     start::<T>(key, state);
     out[..4 * T].copy_from_slice(&state[..4 * T]);
     // by index: after `chunks_exact_mut` no proof knows what was written
+    // (`as` is proved to lose nothing; `u8::try_from` would add a case that never comes)
     for i in 0..out.len() / (8 * T) {
         update(m, i as u8 + 1, state);
         let at = 4 * T + i * (8 * T);
