@@ -16,7 +16,8 @@ use link::Link;
 use refusal::Refusal;
 use shelf::{KeyCell, Shelf};
 
-// Scratch, memory and `out` stay parameters: firmware lends each for one call, and only an open writes the memory.
+// Scratch, memory and `out` stay parameters, and each call says what they hold after it: firmware lends each for one call, and
+// only an open writes the memory.
 impl<K: Kit> Bank<K> {
     // A bank without cells, all links closed.
     pub fn over(kit: K) -> Bank<K>

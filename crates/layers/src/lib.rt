@@ -27,7 +27,7 @@ fn risen(answer: Result<usize, Refusal>) -> Result<usize, Refusal>
     answer.map_err(|reason| match reason {
         Refusal::Key(fault) => Refusal::Key(KeyFault {
             depth: fault.depth.saturating_add(1),
-            length: fault.length,
+            ..fault
         }),
         other => other,
     })

@@ -5,7 +5,7 @@ use std::alloc::{AllocError, Global};
 use std::collections::BTreeMap;
 use std::fmt;
 
-// How many lists a set has.
+// How many lists a set has: as many as a shelf has chains, a number of the rules, which a shelf keeps to itself.
 const LISTS: usize = 16;
 
 #[derive(Drop)]
@@ -46,7 +46,8 @@ fn whole(heap: Global, set: &Transceiver, list: usize) -> Result<Vec<SignalRecor
     }
 }
 
-// Each beacon once, by its nearest record.
+// Each beacon once, by its nearest record. (The chain over all records stands in `season` too: no function can hand an iterator out
+// without naming its type.)
 fn by_beacon(heap: Global, lists: &[Listed]) -> Result<BTreeMap<u32, SignalRecord>, AllocError> {
     let mut best: BTreeMap<u32, SignalRecord> = BTreeMap::new(heap);
     for record in lists.iter().flat_map(|listed| listed.records.iter()) {

@@ -12,7 +12,7 @@ use shelf::Shelf;
 use signal::SignalRecord;
 use std::alloc::{AllocError, Global};
 
-// As many cells as a shelf can have, and so the longest list.
+// As many cells as a shelf can have, and so the longest list: a number of the rules, which a shelf keeps to itself.
 const MOST_CELLS: usize = 256;
 
 // Why a set is given no cells: its shelf refuses, or no memory is left.

@@ -66,6 +66,7 @@ mod tests {
     // The first `len` bytes of KEY fill `cells` cells, under which TEXT becomes `cipher`, and again TEXT.
     fn comes_back<K: Kit>(rt: &impl Abort, kit: &K, len: usize, cells: usize, cipher: &[u8; 16]) {
         assert!(rt; len <= 48 && cells <= 24);
+        // room for the longest schedule of these tests: there is no heap here
         let mut room = [0; 384];
         let schedule = &mut room[..16 * cells];
         let mut block = TEXT;
