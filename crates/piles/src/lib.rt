@@ -113,8 +113,10 @@ mod tests {
         assert_eq!(rt; whitened.need(300), Err(wrong(1, 268)));
         assert_eq!(rt; Whitening::over(whitened).need(64), Err(wrong(2, 0)));
         comes_back(&rt, &whitened, 48, 13, &WHITENED);
+        let mut schedule = [0; 208];
+        assert_eq!(rt; whitened.expand(&KEY, &mut schedule), Ok(()));
         assert_eq!(rt;
-            whitened.encipher(48, &[0; 208], &mut [0; 15]),
+            whitened.encipher(48, &schedule, &mut [0; 15]),
             Err(Refusal::Block)
         );
     }
