@@ -24,7 +24,7 @@ mod round;
 mod schedule;
 mod tables;
 
-// The kit of AES.
+// The kit of AES. The interface asks for both directions, each with the checks that it promises.
 #[derive(Clone, Copy)]
 pub struct Aes;
 
@@ -75,8 +75,8 @@ fn rounds_for(len: usize) -> Option<usize>
     }
 }
 
-// The steps of a round. A caller names one as data, so each direction below matches on it;
-// one match over step and direction would save a single arm, and take the direction besides.
+// The steps of a round. A caller names one as data, so each direction below matches on it, and looks at key and block as it promises.
+// Not one step over a struct of table, turn and matrix: each arm names a step by the standard's name.
 #[derive(Clone, Copy, PartialEq, Eq, Debug)]
 pub enum Step {
     SubBytes,

@@ -12,9 +12,9 @@ use std::array;
 // x^8 + x^4 + x^3 + x + 1, without x^8.
 pub const POLY: u8 = 0x1B;
 
-#[tactic(auto, unfolding(crate::specs::Tables::s_box, crate::specs::Steps::sub_bytes))]
 // The steps, each one call under the standard's name, with the table, the turn or the matrix of its direction.
 
+#[tactic(auto, unfolding(crate::specs::Tables::s_box, crate::specs::Steps::sub_bytes))]
 pub fn sub_bytes(block: &mut [u8; 16])
     ensures { block.new ≡ sub_bytes block.old }
 {

@@ -70,6 +70,7 @@ impl<A: Kit, B: Kit<Width = A::Width>> Cascade<A, B> {
     }
 }
 
+// The interface asks for both directions; each takes the two ciphers in its own order.
 impl<A: Kit, B: Kit<Width = A::Width>> Kit for Cascade<A, B> {
     type Width = A::Width;
 

@@ -67,6 +67,7 @@ impl<K: Kit> Whitening<K> {
     }
 }
 
+// The interface asks for both directions; each XORs the two blocks in its own order.
 impl<K: Kit> Kit for Whitening<K> {
     type Width = K::Width;
 

@@ -31,6 +31,7 @@ pub fn write_front(out: &mut [u8], src: &[u8])
 
 // That a width is at most 32 stays a premise: the fields are public, and an invariant would ask more of whoever builds a record.
 // What the kit answers is let go: after a refusal the block stays as it was, and `enciphered` and `deciphered` say so.
+// No one function of the three: they differ in what goes in, in the call, and in what is done before and after it.
 impl Link {
     // E of a block of text joined with the block before.
     pub(crate) fn seal<K: Kit>(&self, kit: &K, schedule: &[u8], text: &[u8; 32]) -> [u8; 32]

@@ -210,7 +210,7 @@ impl Way {
     }
 }
 
-// One step of the round with a key of two blocks, at the width that the block has.
+// One step of the round with a key of two blocks, at the width that the block has. Each direction promises the checks by itself.
 #[tactic(auto, unfolding(crate::specs::Tables::s, field::specs::Known::m4, field::specs::Known::m8))]
 pub fn apply_step(step: Step, key: &[u8], block: &mut [u8]) -> Result<(), Refusal>
     ensures outcome { refusal result ≡ first (step_checks (length key.now) (length block.old)) }

@@ -1,8 +1,8 @@
 // The steps of MKV's round, the rounds of a schedule, and the same undone, at words of T bytes.
 // Promises each step, round and run of rounds as the standard defines it.
 // Rests on products of bytes (field) and on XOR and substitution (block).
-// Blocks, and the keys XORed to them, stay slices, with a clause for their length: of a slice written as arrays of T no proof knows
-// what it ends as.
+// Blocks stay slices, with a clause for their length: of a slice written as arrays of T no proof knows what it ends as. Keys stay
+// slices beside them, since bytes are XORed to bytes.
 ghost use Rattle.std.specs.Prelude.{◌≡◌, ◌+◌, ◌*◌, ◌/◌, ◌<◌, length};
 ghost use Rattle.mkv.specs.Steps.{sub_cells, sub_cells_back, mix_words, x_words, round as one_round, round_back};
 ghost use Rattle.mkv.specs.Cipher.{encipher, decipher};

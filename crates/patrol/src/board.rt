@@ -1,12 +1,10 @@
 // What probers need of a set: each beacon once at its nearest, nearest first; then the lists.
 use super::set::Transceiver;
+use shelf::CHAINS;
 use signal::SignalRecord;
 use std::alloc::{AllocError, Global};
 use std::collections::BTreeMap;
 use std::fmt;
-
-// How many lists a set has: as many as a shelf has chains, a number of the rules, which a shelf keeps to itself.
-const LISTS: usize = 16;
 
 #[derive(Drop)]
 pub struct Board {
@@ -32,13 +30,14 @@ impl Board {
 
 // The lists of a set that have records.
 pub(super) fn lists(heap: Global, set: &Transceiver) -> Result<Vec<Listed>, AllocError> {
-    (0..LISTS)
+    (0..CHAINS)
         .filter(|list| set.count(*list) > 0)
         .map(|list| whole(heap, set, list).map(|records| Listed { list, records }))
         .try_collect(heap)
 }
 
-// A whole list of a set. Every list that is asked for is there; what would be refused is told as empty.
+// A whole list of a set, in a vector of its own length. Every list that is asked for is there; what would be refused is told as
+// empty.
 fn whole(heap: Global, set: &Transceiver, list: usize) -> Result<Vec<SignalRecord>, AllocError> {
     match set.whole(list) {
         Ok(records) => Vec::from_slice(heap, records.as_slice()),

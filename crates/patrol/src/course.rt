@@ -75,6 +75,7 @@ impl Search {
         told(self.done(place, action))
     }
 
+    // By its place: a report needs two sets at once, which names do not lend.
     fn done(&mut self, place: usize, action: &Action) -> Result<Event, Undone> {
         let heap = self.heap;
         let set = self.sets.get_index_mut(place).ok_or(Fault::KnownName)?;

@@ -11,8 +11,8 @@ pub(super) struct Row {
     pub(super) len: u16,
 }
 
-// Rows 0 to 15 are the chains, and row 16 links the free cells; where that one ends is never asked for. `next` names the
-// cell after each: with no heap, the links between cells stay in a table of cell numbers.
+// Rows 0 to 15 are the chains, and row 16 links the free cells, in one table since all are linked alike; where that one ends is never
+// asked for. `next` names the cell after each: with no heap, the links between cells stay in a table of cell numbers.
 #[derive(Drop)]
 pub struct ChainBook {
     pub(super) size: u16,

@@ -10,6 +10,7 @@ mod keys;
 mod links;
 mod shelf;
 
+pub use links::CHAINS;
 pub use shelf::Shelf;
 
 // One piece of a round key: what a shelf of keys holds in a cell.

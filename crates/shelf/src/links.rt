@@ -9,7 +9,8 @@ use super::cells::Cells;
 use refusal::Refusal;
 use std::array;
 
-pub(super) const CHAINS: usize = 16;
+// The chains of a shelf.
+pub const CHAINS: usize = 16;
 
 const MOST_CELLS: u16 = 256;
 

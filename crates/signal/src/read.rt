@@ -1,5 +1,5 @@
-// Figures as people write them, read from text. Functions and no `FromStr`: `None` says all that there is to say, and a type of
-// errors beside each figure would say no more.
+// Figures as people write them, read from text. Functions and no `FromStr`: numbers and strengths have no type of their own, and
+// `None` says all that there is to say.
 ghost use Rattle.std.specs.Prelude.{◌≡◌, ◌+◌, ◌*◌, ◌^◌, ◌<◌, ◌≤◌, length, IfSome};
 ghost use Rattle.std.specs.Option.{SomeIff};
 ghost use Rattle.std.specs.Str.Parse.{digits_value};

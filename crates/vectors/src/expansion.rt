@@ -48,7 +48,7 @@ fn substituted(word: [u8; 4]) -> Result<[u8; 4], Fault> {
     Ok([a, b, c, d])
 }
 
-// Rcon of row `times` of those that have one: x to the power `times` - 1.
+// Rcon of row `times` of those that have one: x to the power `times` - 1. Formed anew, to be compared with what the cipher makes.
 fn rcon(times: usize) -> [u8; 4] {
     let power = (1..times).fold(1, |power, _| field::mul(0x1B, 2, power));
     [power, 0, 0, 0]

@@ -41,7 +41,7 @@ fn take_line(heap: Global, trials: &mut Vec<Trial>, line: &str) -> Result<(), Fa
         Line::Entry(entry) => trials
             .last_mut()
             .ok_or(Fault::Form("`vector CIPHER NAME` before this"))?
-            .take(heap, entry),
+            .take(entry),
     }
 }
 

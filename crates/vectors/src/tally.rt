@@ -55,7 +55,7 @@ impl Tally {
     }
 }
 
-// The words of a count; `Value`'s own words are those of one.
+// The words of a count; `Value`'s own words are those of one. A function, and no type with a `Display`: one place prints them.
 fn plural(value: Value) -> &'static str {
     match value {
         Value::Schedule => "schedule",

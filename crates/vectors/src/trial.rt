@@ -11,10 +11,11 @@ use std::fmt;
 
 #[derive(Drop)]
 pub struct Trial {
+    heap: Global,
     name: String,
     // before the key is given, that of no bytes, so that a call is refused as for such a key
     keyed: Keyed,
-    // of no bytes before they are given, which no cipher takes either
+    // of no bytes before they are given: the call then refuses them, or the comparison differs
     text: Vec<u8>,
     state: Vec<u8>,
     tally: Tally,
@@ -28,6 +29,7 @@ impl Trial {
             schedule: Vec::new(heap),
         };
         Ok(Trial {
+            heap,
             name: String::from_str(heap, name)?,
             keyed,
             text: Vec::new(heap),
@@ -40,58 +42,47 @@ impl Trial {
         self.tally.values()
     }
 
-    fn take_key(&mut self, heap: Global, key: &[u8]) -> Result<(), Fault> {
-        self.keyed = Keyed::of(heap, self.keyed.cipher, key)?;
+    fn take_key(&mut self, key: &[u8]) -> Result<(), Fault> {
+        self.keyed = Keyed::of(self.heap, self.keyed.cipher, key)?;
         Ok(())
     }
 
-    fn hold_answer(&mut self, heap: Global, due: &[u8]) -> Result<(), Fault> {
+    fn hold_answer(&mut self, due: &[u8]) -> Result<(), Fault> {
         let text = self.text.as_slice();
-        self.keyed.answer(heap, Way::Forth, text, due)?;
+        self.keyed.answer(self.heap, Way::Forth, text, due)?;
         self.tally.count(Value::Answer(Way::Forth));
-        self.keyed.answer(heap, Way::Back, due, text)?;
+        self.keyed.answer(self.heap, Way::Back, due, text)?;
         self.tally.count(Value::Answer(Way::Back));
         Ok(())
     }
 
-    fn hold_step(&mut self, heap: Global, step: Step<'_>, due: &[u8]) -> Result<(), Fault> {
+    fn hold_step(&mut self, step: Step<'_>, due: &[u8]) -> Result<(), Fault> {
         step.take(&self.keyed, self.state.as_mut_slice())?;
         let value = Value::State(step.way);
-        self.tally.hold(heap, value, self.state.as_slice(), due)
+        self.tally
+            .hold(self.heap, value, self.state.as_slice(), due)
     }
 
-    fn hold_round_key(
-        &mut self,
-        heap: Global,
-        form: KeyForm,
-        round: u8,
-        due: &[u8],
-    ) -> Result<(), Fault> {
+    fn hold_round_key(&mut self, form: KeyForm, round: u8, due: &[u8]) -> Result<(), Fault> {
         let key = round_key(self.keyed.schedule.as_slice(), round)?;
         let key = match form {
             KeyForm::Plain => *key,
             KeyForm::Mixed => mixed_key(key)?,
         };
-        self.tally.hold(heap, Value::RoundKey, &key, due)
+        self.tally.hold(self.heap, Value::RoundKey, &key, due)
     }
 
-    fn hold_word(
-        &mut self,
-        heap: Global,
-        row: u8,
-        column: Column,
-        due: &[u8],
-    ) -> Result<(), Fault> {
+    fn hold_word(&mut self, row: u8, column: Column, due: &[u8]) -> Result<(), Fault> {
         let word = column_of(&self.keyed, row, column)?;
-        self.tally.hold(heap, Value::Word, &word, due)
+        self.tally.hold(self.heap, Value::Word, &word, due)
     }
 
     // Takes in what a line gives, or compares what it asks for.
-    pub fn take(&mut self, heap: Global, entry: Entry<'_>) -> Result<(), Fault> {
+    pub fn take(&mut self, entry: Entry<'_>) -> Result<(), Fault> {
         match entry {
-            Entry::Key(key) => self.take_key(heap, key.as_slice()),
+            Entry::Key(key) => self.take_key(key.as_slice()),
             Entry::Schedule(due) => self.tally.hold(
-                heap,
+                self.heap,
                 Value::Schedule,
                 self.keyed.schedule.as_slice(),
                 due.as_slice(),
@@ -100,23 +91,22 @@ impl Trial {
                 self.text = text;
                 Ok(())
             }
-            Entry::Enciphered(due) => self.hold_answer(heap, due.as_slice()),
+            Entry::Enciphered(due) => self.hold_answer(due.as_slice()),
             Entry::State(state) => {
                 self.state = state;
                 Ok(())
             }
-            Entry::Step { step, due } => self.hold_step(heap, step, due.as_slice()),
+            Entry::Step { step, due } => self.hold_step(step, due.as_slice()),
             Entry::RoundKey { form, round, due } => self.hold_round_key(
-                heap,
                 form,
                 round,
                 due.as_slice(),
             ),
-            Entry::Word { row, column, due } => self.hold_word(heap, row, column, due.as_slice()),
+            Entry::Word { row, column, due } => self.hold_word(row, column, due.as_slice()),
             Entry::Pair { key, text, due } => {
-                self.take_key(heap, key.as_slice())?;
+                self.take_key(key.as_slice())?;
                 self.text = text;
-                self.hold_answer(heap, due.as_slice())
+                self.hold_answer(due.as_slice())
             }
         }
     }
