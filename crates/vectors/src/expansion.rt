@@ -40,6 +40,11 @@ impl FromStr for Column {
     }
 }
 
+// By a pattern, and no `rotate_left`: of an array that was read through a reference no proof here knows the length.
+fn rotated([a, b, c, d]: [u8; 4]) -> [u8; 4] {
+    [b, c, d, a]
+}
+
 fn substituted(word: [u8; 4]) -> Result<[u8; 4], Fault> {
     let mut block = [0; 16];
     block[..4].copy_from_slice(&word);
@@ -63,10 +68,11 @@ pub fn column_of(keyed: &Keyed, row: u8, column: Column) -> Result<[u8; 4], Faul
     }
     let schedule = keyed.schedule.as_slice();
     let temp: [u8; 4] = *array_part(schedule, row - 1)?;
-    let mut turned = temp;
-    if row % words == 0 {
-        turned.rotate_left(1);
-    }
+    let turned = if row % words == 0 {
+        rotated(temp)
+    } else {
+        temp
+    };
     match column {
         Column::Temp => Ok(temp),
         Column::Rotated => Ok(turned),
