@@ -1,9 +1,10 @@
 // How a pile is written: `aes`, `whitened mkv128`, or a cascade as `aes 16 mkv128`, with the first cipher's key bytes between.
 ghost use Rattle.std.specs.Prelude.{◌≡◌, ◌≢◌, MatchResult};
-ghost use Rattle.ciphers.specs.declared.Narrow.{Narrow};
-ghost use Rattle.ciphers.specs.Words.{word};
+ghost use Rattle.ciphers.specs.declared.plain.Narrow.{Narrow};
+ghost use Rattle.ciphers.specs.declared.plain.Wide.{Wide};
+ghost use Rattle.ciphers.specs.Words.{word, wide_word};
 
-use super::{Base, Coat, Narrow, Pile};
+use super::{Base, Coat, Coated, Narrow, Pile, Wide};
 use std::fmt;
 use std::str::FromStr;
 
@@ -25,13 +26,24 @@ impl FromStr for Narrow {
     }
 }
 
-impl Base {
+impl FromStr for Wide {
+    type Err = UnknownCipher;
+
+    ghost from_str_gives = { λ text r. MatchResult r (λ cipher. text ≡ wide_word cipher) (λ _. (cipher : Wide) → text ≢ wide_word cipher) };
+
+    fn from_str(text: &str) -> Result<Wide, UnknownCipher> {
+        match text {
+            "mkv256" => Ok(Wide::Mkv256),
+            _ => Err(UnknownCipher),
+        }
+    }
+}
+
+impl<K: FromStr<Err = UnknownCipher> + Copy> Base<K> {
     // The base that words name; a cascade's two ciphers have blocks of one size.
-    fn named(words: &[&str]) -> Option<Base> {
+    fn named(words: &[&str]) -> Option<Base<K>> {
         match words {
-            ["mkv256"] => Some(Base::Mkv256),
             [one] => Some(Base::One(one.parse().ok()?)),
-            ["mkv256", split, "mkv256"] => Some(Base::TwoMkv256(split.parse().ok()?)),
             [first, split, second] => Some(Base::Two(
                 first.parse().ok()?,
                 split.parse().ok()?,
@@ -50,7 +62,9 @@ impl Pile {
             ["whitened", rest @ ..] => (Coat::Whitened, rest),
             rest => (Coat::Bare, rest),
         };
-        Base::named(base).map(|base| Pile { coat, base })
+        Base::named(base)
+            .map(|base| Pile::Narrow(Coated { coat, base }))
+            .or_else(|| Base::named(base).map(|base| Pile::Wide(Coated { coat, base })))
     }
 }
 
@@ -63,26 +77,41 @@ impl fmt::Display for Narrow {
     }
 }
 
-impl fmt::Display for Base {
+impl fmt::Display for Wide {
+    fn fmt<W: fmt::Write>(&self, f: &mut fmt::Formatter<W>) -> fmt::Result {
+        match self {
+            Wide::Mkv256 => write!(f, "MKV-256"),
+        }
+    }
+}
+
+impl<K: fmt::Display> fmt::Display for Base<K> {
     fn fmt<W: fmt::Write>(&self, f: &mut fmt::Formatter<W>) -> fmt::Result {
         match self {
             Base::One(cipher) => write!(f, "{cipher}"),
             Base::Two(first, split, second) => {
                 write!(f, "{first} with {split} bytes and then {second}")
             }
-            Base::Mkv256 => write!(f, "MKV-256"),
-            Base::TwoMkv256(split) => write!(f, "MKV-256 with {split} bytes and then MKV-256"),
+        }
+    }
+}
+
+impl<K: fmt::Display> fmt::Display for Coated<K> {
+    fn fmt<W: fmt::Write>(&self, f: &mut fmt::Formatter<W>) -> fmt::Result {
+        let base = &self.base;
+        match self.coat {
+            Coat::Bare => write!(f, "{base}"),
+            Coat::Whitened => write!(f, "whitened {base}"),
+            Coat::TwiceWhitened => write!(f, "twice whitened {base}"),
         }
     }
 }
 
 impl fmt::Display for Pile {
     fn fmt<W: fmt::Write>(&self, f: &mut fmt::Formatter<W>) -> fmt::Result {
-        let base = self.base;
-        match self.coat {
-            Coat::Bare => write!(f, "{base}"),
-            Coat::Whitened => write!(f, "whitened {base}"),
-            Coat::TwiceWhitened => write!(f, "twice whitened {base}"),
+        match self {
+            Pile::Narrow(cipher) => write!(f, "{cipher}"),
+            Pile::Wide(cipher) => write!(f, "{cipher}"),
         }
     }
 }

@@ -1,5 +1,5 @@
 // The signal record: one beacon heard once. And the figures that people write of it: identity, distance, time.
-// Promises what a text is read as, and just when it is no such figure; and what is written of each.
+// Promises what a text is read as, and just when it is no such figure; what is written of each; and a record's 11 bytes, both ways.
 // Rests on nothing.
 #![tactic(auto)]
 
