@@ -4,6 +4,8 @@
   mkv_published.txt, aes_published.txt   the published vectors (tools/published), in one line format
   mkv_random.txt                         random keys and blocks, answered by tools/peer/mkv.py
   aes_random.txt                         random keys and blocks, answered by OpenSSL
+  mkv_modes.txt                          random messages in CBC, CFB and OFB, answered by tools/peer/modes.py over mkv.py
+  aes_modes.txt                          random messages in CBC, CFB and OFB, answered by OpenSSL
 
 Python 3.9 or newer, standard library; AES also takes the `openssl` command, or the package `cryptography`
 where that is missing. The random numbers come from SHA-256 of a fixed seed and a counter.
@@ -24,10 +26,13 @@ sys.dont_write_bytecode = True
 sys.path.insert(0, os.path.join(TOOLS, "peer"))
 import aes  # noqa: E402
 import mkv  # noqa: E402
+import modes  # noqa: E402
 
 SEED = b"helmgage vectors 1"
 MKV_PAIRS = 220
 AES_PAIRS = 330
+# Text lengths of the messages: as many bytes as that, and every length below.
+LONGEST = 100
 
 FORMAT = """\
 # A line is a word and its fields, with one space between them; # begins a comment line; empty lines count for nothing.
@@ -43,6 +48,10 @@ FORMAT = """\
 #   mixedkey ROUND HEX     compared: a round key with MixColumns undone (aes)
 #   word ROW COLUMN HEX    compared: a column of the row of the key expansion that gives a word (aes)
 #   pair KEY TEXT CIPHER   compared: the text enciphered under the key; and the cipher deciphered
+#   message MODE KEY START TEXT CIPHER SENT HEARD
+#                          compared: what a sending link gives for the text, and what a receiving link gives for the cipher;
+#                          MODE is cbc, cfb or ofb, START the start block; - is a text or a cipher of no byte
+#                          SENT and HEARD are the lengths of the pieces that the two links take, as 5,27,0,16; - is no piece
 # Steps of mkv128 and mkv256: XorA SubCells MixWords XorB XWords in rounds from 1, PostKey in the round after the last.
 # Steps of aes: SubBytes ShiftRows MixColumns AddRoundKey in rounds from 0, and AddMixedKey of the equivalent inverse.
 """
@@ -70,6 +79,10 @@ def digits(value):
     return value.hex().upper()
 
 
+def digits_or_none(value):
+    return digits(value) or "-"
+
+
 def random_bytes():
     """A function that gives the next n bytes of the fixed stream."""
     counter = [0]
@@ -87,6 +100,49 @@ def random_bytes():
 
 def head(title):
     return "# %s\n# Made by tools/vectors.py: edit that, and not this file.\n%s\n" % (title, FORMAT)
+
+
+# ---------------------------------------------------------------- messages of radio links
+MODES = ((1, "cbc"), (2, "cfb"), (3, "ofb"))
+
+
+def random_pieces(take, length):
+    """Lengths of pieces that are `length` bytes together: about one in five of no byte, the others of up to 40."""
+    pieces, left = [], length
+    while left:
+        byte = take(1)[0]
+        piece = 0 if byte < 48 else min(left, 1 + byte % 40)
+        pieces.append(piece)
+        left -= piece
+    return pieces + [0] * (take(1)[0] % 3)
+
+
+def pieces_shown(pieces):
+    return ",".join(map(str, pieces)) or "-"
+
+
+def message_line(take, mode, key, start, text, cipher):
+    sent = heard = random_pieces(take, len(text))
+    while heard == sent:
+        heard = random_pieces(take, len(cipher))
+    fields = (mode, digits(key), digits(start), digits_or_none(text), digits_or_none(cipher), pieces_shown(sent), pieces_shown(heard))
+    return "message %s %s %s %s %s %s %s\n" % fields
+
+
+def messages(out, take, name, width, lengths, answer, peer):
+    """A vector for each mode, with a message of each text length; the key lengths take turns.
+
+    `answer` gives the ciphertext that is written, and `peer(key)` E and D of tools/peer, which have to give it too."""
+    for number, mode in MODES:
+        out.append("vector %s random messages in %s\n" % (name, mode.upper()))
+        for n in range(LONGEST + 1):
+            key, start, text = take(lengths[(n + number) % len(lengths)]), take(width), take(n)
+            cipher = answer(number, mode, key, start, text)
+            forth, back = peer(key)
+            assert cipher == modes.send(number, forth, width, start, text)
+            assert text == modes.receive(number, forth, back, width, start, cipher)
+            out.append(message_line(take, mode, key, start, text, cipher))
+        out.append("\n")
 
 
 # ---------------------------------------------------------------- MKV
@@ -130,6 +186,28 @@ def mkv_random():
             key, text = take(length), take(width)
             out.append("pair %s %s %s\n" % (digits(key), digits(text), digits(mkv.encrypt(width, key, text))))
         out.append("\n")
+    return "".join(out)
+
+
+def mkv_peer(width):
+    def both(key):
+        schedule = mkv.schedule(width, key)
+        return (lambda block: mkv.encipher(width, len(key), schedule, block),
+                lambda block: mkv.decipher(width, len(key), schedule, block))
+
+    return both
+
+
+def mkv_modes():
+    take = random_bytes()
+    out = [head("Random messages in CBC, CFB and OFB over MKV, answered by tools/peer/modes.py over tools/peer/mkv.py.")]
+    for width in (16, 32):
+        lengths, peer = [length for w, length in MKV_VERSIONS if w == width], mkv_peer(width)
+
+        def answer(number, _mode, key, start, text):
+            return modes.send(number, peer(key)[0], width, start, text)
+
+        messages(out, take, "mkv%d" % (8 * width), width, lengths, answer, peer)
     return "".join(out)
 
 
@@ -218,15 +296,20 @@ def aes_published():
     return "".join(out)
 
 
-def openssl(key, text):
-    """One block enciphered by OpenSSL: its command, or the package `cryptography` over the same library."""
+def openssl(mode, key, text, start=None):
+    """What OpenSSL makes of a text, which it does not pad: its command, or the package `cryptography` over the same library."""
+    command = ["openssl", "enc", "-aes-%d-%s" % (8 * len(key), mode), "-nopad", "-K", key.hex()]
     try:
-        done = subprocess.run(["openssl", "enc", "-aes-%d-ecb" % (8 * len(key)), "-nopad", "-K", key.hex()],
-                              input=text, capture_output=True, check=True)
+        done = subprocess.run(command + (["-iv", start.hex()] if start else []), input=text, capture_output=True, check=True)
         return done.stdout
     except FileNotFoundError:
-        from cryptography.hazmat.primitives.ciphers import Cipher, algorithms, modes
-        enc = Cipher(algorithms.AES(key), modes.ECB()).encryptor()
+        from cryptography.hazmat.primitives.ciphers import Cipher, algorithms, modes as theirs
+        try:
+            from cryptography.hazmat.decrepit.ciphers.modes import CFB, OFB
+        except ImportError:
+            CFB, OFB = theirs.CFB, theirs.OFB
+        chained = {"cbc": theirs.CBC, "cfb": CFB, "ofb": OFB}
+        enc = Cipher(algorithms.AES(key), chained[mode](start) if start else theirs.ECB()).encryptor()
         return enc.update(text) + enc.finalize()
 
 
@@ -237,16 +320,35 @@ def aes_random():
         out.append("vector aes random keys of %d bytes\n" % length)
         for _ in range(AES_PAIRS):
             key, text = take(length), take(16)
-            cipher = openssl(key, text)
+            cipher = openssl("ecb", key, text)
             assert cipher == aes.encrypt(key, text)
             out.append("pair %s %s %s\n" % (digits(key), digits(text), digits(cipher)))
         out.append("\n")
     return "".join(out)
 
 
+def aes_peer(key):
+    schedule = aes.schedule(key)
+    return (lambda block: aes.encipher(len(key), schedule, block),
+            lambda block: aes.decipher(len(key), schedule, block))
+
+
+def aes_modes():
+    take = random_bytes()
+    out = [head("Random messages in CBC, CFB and OFB over AES, answered by OpenSSL (openssl enc -aes-N-MODE -nopad).")]
+
+    def answer(_number, mode, key, start, text):
+        # a byte 80 and zeros, always: not the padding of OpenSSL
+        return openssl(mode, key, text + b"\x80" + bytes(-(len(text) + 1) % 16) if mode == "cbc" else text, start)
+
+    messages(out, take, "aes", 16, (16, 24, 32), answer, aes_peer)
+    return "".join(out)
+
+
 def main():
     files = {"mkv_published.txt": mkv_published, "mkv_random.txt": mkv_random,
-             "aes_published.txt": aes_published, "aes_random.txt": aes_random}
+             "aes_published.txt": aes_published, "aes_random.txt": aes_random,
+             "mkv_modes.txt": mkv_modes, "aes_modes.txt": aes_modes}
     same = True
     for name, make in files.items():
         path, text = os.path.join(DATA, name), make()

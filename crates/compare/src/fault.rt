@@ -24,6 +24,8 @@ pub enum Value {
     State(Way),
     // the text enciphered, or the answer deciphered
     Answer(Way),
+    // what a sending link gives, or a receiving one
+    Message(Way),
 }
 
 impl fmt::Display for Value {
@@ -36,6 +38,8 @@ impl fmt::Display for Value {
             Value::State(Way::Back) => "the state on the way back",
             Value::Answer(Way::Forth) => "the text enciphered",
             Value::Answer(Way::Back) => "the cipher deciphered",
+            Value::Message(Way::Forth) => "the message sent",
+            Value::Message(Way::Back) => "the message received",
         })
     }
 }

@@ -2,6 +2,7 @@
 // Promises nothing of its own: a line that is of no form is a fault.
 // Rests on the digits (compare).
 use crate::expansion::Column;
+use crate::messages::Message;
 use crate::steps::Step;
 use compare::{Cipher, Fault, Way, parse_hex};
 use std::alloc::Global;
@@ -48,6 +49,7 @@ pub enum Entry<'a> {
         text: Vec<u8>,
         due: Vec<u8>,
     },
+    Message(Message),
 }
 
 pub fn parse<'a>(heap: Global, line: &'a str) -> Result<Line<'a>, Fault> {
@@ -85,6 +87,7 @@ fn entry_of<'a>(heap: Global, words: &[&'a str]) -> Result<Entry<'a>, Fault> {
             text: parse_hex(heap, text)?,
             due: parse_hex(heap, due)?,
         }),
+        ["message", fields @ ..] => Ok(Entry::Message(Message::of(heap, fields)?)),
         _ => Err(Fault::Form("a line of the format")),
     }
 }

@@ -10,18 +10,23 @@ use std::alloc::Global;
 use std::{env, fs};
 use trial::Trial;
 
+mod banks;
 mod expansion;
 mod lines;
+mod link_speed;
+mod messages;
 mod speed;
 mod steps;
 mod tally;
 mod trial;
 
-const FILES: [&str; 4] = [
+const FILES: [&str; 6] = [
     "mkv_published.txt",
     "mkv_random.txt",
+    "mkv_modes.txt",
     "aes_published.txt",
     "aes_random.txt",
+    "aes_modes.txt",
 ];
 
 #[derive(Clone, Copy, Default)]

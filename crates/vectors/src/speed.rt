@@ -1,6 +1,7 @@
 // How long a block takes: a mode of the program that no comparison rests on.
 // Promises nothing of its own.
-// Rests on the ciphers (compare) and the clock of the machine.
+// Rests on the ciphers (compare), the clock of the machine, and the measures of the bank (link_speed).
+use crate::link_speed;
 use anyhow::Context;
 use compare::{Cipher, Fault, Keyed};
 use std::time::Instant;
@@ -44,6 +45,7 @@ pub fn measure(rt: &HostRuntime) -> anyhow::Result<()> {
     for (cipher, length) in VERSIONS {
         let nanoseconds = time_of(rt, cipher, length)?;
         println!(rt; "{cipher}, key of {length} bytes: {nanoseconds} ns a block")?;
+        link_speed::tell(rt, cipher, length)?;
     }
     Ok(())
 }

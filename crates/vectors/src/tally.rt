@@ -6,7 +6,7 @@ use std::alloc::{AllocError, Global};
 use std::collections::BTreeMap;
 use std::fmt;
 
-const KINDS: [Value; 7] = [
+const KINDS: [Value; 9] = [
     Value::Schedule,
     Value::Word,
     Value::RoundKey,
@@ -14,6 +14,8 @@ const KINDS: [Value; 7] = [
     Value::State(Way::Back),
     Value::Answer(Way::Forth),
     Value::Answer(Way::Back),
+    Value::Message(Way::Forth),
+    Value::Message(Way::Back),
 ];
 
 // A count for each kind from the beginning, so that counting can't fail.
@@ -65,6 +67,8 @@ fn plural(value: Value) -> &'static str {
         Value::State(Way::Back) => "states back",
         Value::Answer(Way::Forth) => "enciphered",
         Value::Answer(Way::Back) => "deciphered",
+        Value::Message(Way::Forth) => "messages sent",
+        Value::Message(Way::Back) => "messages received",
     }
 }
 

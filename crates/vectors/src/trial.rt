@@ -1,6 +1,7 @@
 // A vector under comparison: what its lines have given so far, and what was compared.
 // Promises nothing of its own: what passes is promised by the comparisons.
-// Rests on the comparisons (compare) and the steps of the ciphers (steps).
+// Rests on the comparisons (compare), the steps of the ciphers (steps) and the banks of links (banks).
+use crate::banks::Banks;
 use crate::expansion::{Column, column_of};
 use crate::lines::{Entry, KeyForm};
 use crate::steps::{Step, mixed_key, round_key};
@@ -18,6 +19,7 @@ pub struct Trial {
     // of no bytes before they are given: the call then refuses them, or the comparison differs
     text: Vec<u8>,
     state: Vec<u8>,
+    banks: Banks,
     tally: Tally,
 }
 
@@ -34,6 +36,7 @@ impl Trial {
             keyed,
             text: Vec::new(heap),
             state: Vec::new(heap),
+            banks: Banks::of(heap, cipher)?,
             tally: Tally::new(heap)?,
         })
     }
@@ -108,6 +111,7 @@ impl Trial {
                 self.text = text;
                 self.hold_answer(due.as_slice())
             }
+            Entry::Message(message) => self.banks.hold(self.heap, &message, &mut self.tally),
         }
     }
 }
