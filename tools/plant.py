@@ -45,7 +45,7 @@ def first_error(log):
     """The first line that says why: an error of antt's or of the compiler, or the first function that is not proved."""
     for pattern in (r"error[:\[].*", r"it is not proved.*", r"fn .*: no(t| ).*proved?.*"):
         for line in log.splitlines():
-            if re.search(pattern, line) and "crates/shelf/proofs" not in line:
+            if re.search(pattern, line) and not line.startswith("statements "):
                 line = re.sub(r"^.*?/crates/", "", line)
                 return line[:220]
     return log.strip().splitlines()[-1][:220] if log.strip() else "no output"

@@ -5,8 +5,10 @@ ghost use Rattle.shelf.specs.Calls.{Empty, Append, Read, Gather, Drop as Droppin
 ghost use Rattle.patrol.specs.declared.calls.SizeError.TheVariants.{Refused, Memory};
 ghost use Rattle.patrol.specs.Sets.{stands, memory, Sized, Whole};
 
+use super::radio::Radio;
 use super::set::Transceiver;
 use arrayvec::ArrayVec;
+use ciphers::Pile;
 use refusal::Refusal;
 use shelf::Shelf;
 use signal::SignalRecord;
@@ -41,13 +43,14 @@ impl From<AllocError> for SizeError {
 }
 
 impl Transceiver {
-    // A set without cells.
-    pub(super) fn new(heap: Global) -> Transceiver
+    // A set without cells, its radio over a cipher.
+    pub(super) fn new(heap: Global, cipher: Pile) -> Transceiver
         ensures { Empty 0 (stands result) }
     {
         Transceiver {
             shelf: Shelf::new(),
             cells: Vec::new(heap),
+            radio: Radio::over(heap, cipher),
         }
     }
 

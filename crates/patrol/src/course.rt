@@ -1,21 +1,35 @@
-// A search under way: the sets by name, the leader's first, and what each statement does to them.
+// A search under way: the sets by name, the leader's first, the links between them, and what each statement does to them.
 use super::board::{Board, lists};
+use super::channel::Channel;
 use super::event::{Event, Undone};
 use super::season;
 use super::set::Transceiver;
+use ciphers::{Base, Coat, Coated, Narrow, Pile};
 use indexmap::IndexMap;
 use itertools::Itertools;
 use searchfile::{Action, Fault, Role};
 use std::alloc::{AllocError, Global};
 
-#[derive(Drop)]
+// The cipher of a search that names none.
+pub(super) const PLAIN: Pile = Pile::Narrow(Coated {
+    coat: Coat::Bare,
+    base: Base::One(Narrow::Aes),
+});
+
+// No `Drop`: the tickets of open links are spent where the search is over.
 pub struct Search {
-    heap: Global,
+    pub(super) heap: Global,
     // once the file has told it
-    title: Option<String>,
+    pub(super) title: Option<String>,
+    // the cipher of all radios, once the file has told it
+    pub(super) radio: Option<Pile>,
     // By name, the leader first. A patroller's place is its number, and that of the leader's list for its reports.
-    sets: IndexMap<String, Transceiver>,
-    second: u32,
+    pub(super) sets: IndexMap<String, Transceiver>,
+    // at most one for each patroller, and no more than the leader's radio has links
+    pub(super) channels: Vec<Channel>,
+    // how many links were asked for: no two have the same key and start block
+    pub(super) opens: u32,
+    pub(super) second: u32,
 }
 
 impl Search {
@@ -24,7 +38,10 @@ impl Search {
         Search {
             heap,
             title: None,
+            radio: None,
             sets: IndexMap::new(heap),
+            channels: Vec::new(heap),
+            opens: 0,
             second: 0,
         }
     }
@@ -38,14 +55,36 @@ impl Search {
         Ok(())
     }
 
-    // A set joins, with its cells.
-    pub fn declare(&mut self, role: Role, name: &str, cells: usize) -> Result<Event, Fault> {
+    // The cipher of all radios.
+    pub fn tune(&mut self, cipher: Pile) -> Result<(), Fault> {
+        if self.title.is_none() {
+            return Err(Fault::SearchFirst);
+        }
+        if self.radio.is_some() || !self.sets.is_empty() {
+            return Err(Fault::OneRadio);
+        }
+        self.radio = Some(cipher);
+        Ok(())
+    }
+
+    pub(super) fn cipher(&self) -> Pile {
+        self.radio.unwrap_or(PLAIN)
+    }
+
+    // A set joins, with its cells, and with its key cells where it has a radio.
+    pub fn declare(
+        &mut self,
+        role: Role,
+        name: &str,
+        cells: usize,
+        key_cells: Option<usize>,
+    ) -> Result<Event, Fault> {
         self.may_join(role)?;
         if self.sets.contains_key(name) {
             return Err(Fault::NewName);
         }
-        let mut set = Transceiver::new(self.heap);
-        let event = told(set.sized(self.heap, cells))?;
+        let mut set = Transceiver::new(self.heap, self.cipher());
+        let event = told(set.joined(self.heap, cells, key_cells))?;
         self.sets.insert(String::from_str(self.heap, name)?, set)?;
         Ok(event)
     }
@@ -78,26 +117,27 @@ impl Search {
     // By its place: a report needs two sets at once, which names do not lend.
     fn done(&mut self, place: usize, action: &Action) -> Result<Event, Undone> {
         let heap = self.heap;
-        let set = self.sets.get_index_mut(place).ok_or(Fault::KnownName)?;
         match action {
-            Action::Hear { record, list } => Ok(set.heard(*list, &[*record])?),
-            Action::Sweep { list, records } => Ok(set.heard(*list, records.as_slice())?),
+            Action::Hear { record, list } => Ok(self.set(place)?.heard(*list, &[*record])?),
+            Action::Sweep { list, records } => {
+                Ok(self.set(place)?.heard(*list, records.as_slice())?)
+            }
             Action::Report { list } => self.report(place, *list),
-            Action::Lose { list } => Ok(set.lost(*list)?),
-            Action::Read { list, position } => Ok(set.told(*list, *position)?),
+            Action::Lose { list } => Ok(self.set(place)?.lost(*list)?),
+            Action::Open { mode, bytes } => self.open(place, *mode, *bytes),
+            Action::Close => self.close(place),
+            Action::LoseLink => self.lose_link(place),
+            Action::Read { list, position } => Ok(self.set(place)?.told(*list, *position)?),
             Action::List => Ok(Event::Listed),
-            Action::Get { cells } => set.sized(heap, *cells),
-            Action::Key { cipher, bytes } => Ok(set.keyed(*cipher, *bytes)?),
+            Action::Count => Ok(self.set(place)?.counted()),
+            Action::Get { cells } => self.set(place)?.sized(heap, *cells),
+            Action::GetKeyCells { cells } => self.set(place)?.keys_sized(heap, *cells),
+            Action::Key { cipher, bytes } => Ok(self.set(place)?.keyed(*cipher, *bytes)?),
         }
     }
 
-    // A patroller's list goes to the leader's set, onto the list with the patroller's number.
-    fn report(&mut self, place: usize, list: usize) -> Result<Event, Undone> {
-        let after_leader = place.checked_sub(1).ok_or(Fault::PatrollerName)?;
-        let mut sets = self.sets.values_mut();
-        let leader = sets.next().ok_or(Fault::LeaderFirst)?;
-        let patroller = sets.nth(after_leader).ok_or(Fault::KnownName)?;
-        Ok(patroller.reported(list, leader, place)?)
+    fn set(&mut self, place: usize) -> Result<&mut Transceiver, Fault> {
+        self.sets.get_index_mut(place).ok_or(Fault::KnownName)
     }
 
     // What probers need of a set.

@@ -8,7 +8,14 @@ use std::fmt;
 
 #[derive(Clone, Copy)]
 pub enum Event {
+    Joined {
+        cells: usize,
+        key_cells: Option<usize>,
+    },
     Sized {
+        cells: usize,
+    },
+    KeysSized {
         cells: usize,
     },
     Heard {
@@ -16,11 +23,29 @@ pub enum Event {
         records: usize,
         free: usize,
     },
+    Opened {
+        link: usize,
+        there: usize,
+        room: KeyRoom,
+    },
+    // of a list's records, those that came whole at the leader's set, with those of reports before
     Reported {
         list: usize,
+        sent: usize,
         records: usize,
         onto: usize,
         free: usize,
+    },
+    Closed {
+        link: usize,
+        records: usize,
+        onto: usize,
+        free: usize,
+        room: KeyRoom,
+    },
+    LinkLost {
+        link: usize,
+        room: KeyRoom,
     },
     Lost {
         list: usize,
@@ -33,6 +58,11 @@ pub enum Event {
         record: SignalRecord,
     },
     Listed,
+    Counted {
+        free: usize,
+        key_cells: usize,
+        links: usize,
+    },
     Keyed {
         cipher: Pile,
         bytes: usize,
@@ -41,9 +71,24 @@ pub enum Event {
     Refused(Refused),
 }
 
+// The free key cells of both sides of a link.
+#[derive(Clone, Copy)]
+pub struct KeyRoom {
+    pub patroller: usize,
+    pub leader: usize,
+}
+
+// Which set refuses: the one that does the step, or the leader's.
+#[derive(Clone, Copy, PartialEq, Eq, Debug)]
+pub enum Side {
+    Own,
+    Leader,
+}
+
 // A refusal, with the cells that were free then and those that were needed, where the call asks for any.
 #[derive(Clone, Copy)]
 pub struct Refused {
+    pub by: Side,
     pub refusal: Refusal,
     pub free: usize,
     pub needed: Option<usize>,
@@ -90,7 +135,23 @@ impl fmt::Display for Count {
 impl fmt::Display for Event {
     fn fmt<W: fmt::Write>(&self, f: &mut fmt::Formatter<W>) -> fmt::Result {
         match *self {
-            Event::Sized { cells } => write!(f, "has {}", Count(cells, "cell")),
+            Event::Joined {
+                cells,
+                key_cells: Some(key_cells),
+            } => {
+                write!(
+                    f,
+                    "has {} and {}",
+                    Count(cells, "cell"),
+                    Count(key_cells, "key cell")
+                )
+            }
+            Event::Joined {
+                cells,
+                key_cells: None,
+            }
+            | Event::Sized { cells } => write!(f, "has {}", Count(cells, "cell")),
+            Event::KeysSized { cells } => write!(f, "has {}", Count(cells, "key cell")),
             Event::Heard {
                 list,
                 records,
@@ -103,19 +164,39 @@ impl fmt::Display for Event {
                     Count(free, "cell")
                 )
             }
+            Event::Opened { link, there, room } => {
+                write!(f, "opens link {link}, the leader's link {there}: {room}")
+            }
             Event::Reported {
                 list,
+                sent,
                 records,
                 onto,
                 free,
             } => {
                 write!(
                     f,
-                    "reports list {list}: {} onto the leader's list {onto}, {} free there",
+                    "reports list {list}: {} sent, {} onto the leader's list {onto}, {} free there",
+                    Count(sent, "record"),
                     Count(records, "record"),
                     Count(free, "cell")
                 )
             }
+            Event::Closed {
+                link,
+                records,
+                onto,
+                free,
+                room,
+            } => {
+                write!(
+                    f,
+                    "closes link {link}: {} onto the leader's list {onto}, {} free there; {room}",
+                    Count(records, "record"),
+                    Count(free, "cell")
+                )
+            }
+            Event::LinkLost { link, room } => write!(f, "loses link {link}: {room}"),
             Event::Lost {
                 list,
                 records,
@@ -134,6 +215,19 @@ impl fmt::Display for Event {
                 record,
             } => { write!(f, "list {list} at {position}: {record}") }
             Event::Listed => write!(f, "lists"),
+            Event::Counted {
+                free,
+                key_cells,
+                links,
+            } => {
+                write!(
+                    f,
+                    "{} and {} free, {} open",
+                    Count(free, "cell"),
+                    Count(key_cells, "key cell"),
+                    Count(links, "link")
+                )
+            }
             Event::Keyed {
                 cipher,
                 bytes,
@@ -150,20 +244,39 @@ impl fmt::Display for Event {
     }
 }
 
+impl fmt::Display for KeyRoom {
+    fn fmt<W: fmt::Write>(&self, f: &mut fmt::Formatter<W>) -> fmt::Result {
+        let there = self.leader;
+        write!(
+            f,
+            "{} free, {there} there",
+            Count(self.patroller, "key cell")
+        )
+    }
+}
+
+impl fmt::Display for Side {
+    fn fmt<W: fmt::Write>(&self, f: &mut fmt::Formatter<W>) -> fmt::Result {
+        match self {
+            Side::Own => Ok(()),
+            Side::Leader => write!(f, " by the leader's set"),
+        }
+    }
+}
+
 impl fmt::Display for Refused {
     fn fmt<W: fmt::Write>(&self, f: &mut fmt::Formatter<W>) -> fmt::Result {
         let Refused {
+            by,
             refusal,
             free,
             needed,
         } = *self;
         let number = refusal.number();
+        write!(f, "refused {number}{by}: {refusal}")?;
         match (refusal, needed) {
-            (Refusal::Cells, Some(needed)) => write!(
-                f,
-                "refused {number}: {refusal} ({free} free, {needed} needed)"
-            ),
-            _ => write!(f, "refused {number}: {refusal}"),
+            (Refusal::Cells, Some(needed)) => write!(f, " ({free} free, {needed} needed)"),
+            _ => Ok(()),
         }
     }
 }

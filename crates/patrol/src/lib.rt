@@ -1,17 +1,21 @@
-// A search under way: sets with their signal records on shelves, and what comes of each step.
+// A search under way: sets with their signal records on shelves and their radio links, and what comes of each step.
 // Promises that a set answers as its shelf does, and the bytes of the season's lines.
-// Rests on `shelf`, `signal`, `ciphers`, `searchfile` and `refusal`.
+// Rests on `shelf`, `bank_calls`, `signal`, `ciphers`, `searchfile` and `refusal`.
 #![tactic(auto)]
 
 mod board;
 mod calls;
+mod channel;
 mod course;
 mod event;
+mod links;
+mod radio;
+mod report;
 mod season;
 mod set;
 mod steps;
 
 pub use board::{Board, Listed};
 pub use course::Search;
-pub use event::{Event, Refused};
+pub use event::{Event, KeyRoom, Refused, Side};
 pub use season::HEADING;

@@ -1,6 +1,7 @@
-// A set: a transceiver with its shelf of signal records and the cell memory behind it.
+// A set: a transceiver with its shelf of signal records, the cell memory behind it, and its radio.
 ghost use Rattle.std.specs.Prelude.{◌≡◌, vec_len};
 
+use super::radio::Radio;
 use shelf::Shelf;
 use signal::SignalRecord;
 
@@ -8,5 +9,6 @@ use signal::SignalRecord;
 pub struct Transceiver {
     pub(super) shelf: Shelf<SignalRecord>,
     pub(super) cells: Vec<SignalRecord>,
+    pub(super) radio: Radio,
     ghost whole: { vec_len cells ≡ shelf.book.size },
 }

@@ -38,11 +38,16 @@ pub fn file(rt: &HostRuntime, path: &str, season: &mut String) -> Result<(), Sto
         path,
         search: Search::new(rt.alloc()),
     };
-    let text = std::str::from_utf8(bytes.as_slice()).map_err(|e| {
-        let number = line_of(bytes.as_slice(), e.valid_up_to());
-        reading.told(number, "", Undone::Fault(Fault::Text))
-    })?;
-    reading.through(text, season)
+    let done = match std::str::from_utf8(bytes.as_slice()) {
+        Ok(text) => reading.through(text, season),
+        Err(e) => {
+            let number = line_of(bytes.as_slice(), e.valid_up_to());
+            Err(reading.told(number, "", Undone::Fault(Fault::Text)))
+        }
+    };
+    // no `?` before this: a search holds the tickets of its open links
+    reading.over();
+    done
 }
 
 // The number of the line that a byte stands on.
@@ -52,7 +57,6 @@ fn line_of(bytes: &[u8], at: usize) -> usize {
 }
 
 // A search file under way.
-#[derive(Drop)]
 struct Reading<'a> {
     rt: &'a HostRuntime,
     path: &'a str,
@@ -102,8 +106,18 @@ impl Reading<'_> {
                 println!(self.rt; "search {title}")?;
                 Ok(())
             }
-            Statement::Set { role, name, cells } => {
-                let event = self.search.declare(role, name, cells)?;
+            Statement::Radio { cipher } => {
+                self.search.tune(cipher)?;
+                println!(self.rt; "radio {cipher}")?;
+                Ok(())
+            }
+            Statement::Set {
+                role,
+                name,
+                cells,
+                key_cells,
+            } => {
+                let event = self.search.declare(role, name, cells, key_cells)?;
                 println!(self.rt; "{role} {name}: {event}")?;
                 Ok(())
             }
@@ -132,9 +146,24 @@ impl Reading<'_> {
         Ok(())
     }
 
+    // The search is over, at its end or at a bad line.
+    fn over(self) {
+        let Reading {
+            rt: _,
+            path: _,
+            search,
+        } = self;
+        search.over();
+    }
+
     // The end of a search: the leader reads the lists, and the season gets its lines.
     fn ending(&self, season: &mut String) -> Result<(), Undone> {
         let leader = self.search.leader()?;
+        match self.search.links() {
+            0 => {}
+            1 => println!(self.rt; "1 link is still open, and is struck")?,
+            n => println!(self.rt; "{n} links are still open, and are struck")?,
+        }
         println!(self.rt; "the search ends; {leader} lists")?;
         self.lists(leader)?;
         self.search.season(season)?;

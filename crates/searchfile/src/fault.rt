@@ -4,11 +4,11 @@ use thiserror::Error;
 
 #[derive(Clone, Copy, PartialEq, Eq, Debug, Error)]
 pub enum Fault {
-    #[error("expected `search`, `leader`, `patroller`, or a time, a set and what it does")]
+    #[error("expected `search`, `radio`, `leader`, `patroller`, or a time, a set and what it does")]
     Statement,
     #[error("expected `search TITLE`")]
     TitleForm,
-    #[error("expected `leader NAME with N cells` or `patroller NAME with N cells`")]
+    #[error("expected `leader NAME with N cells` or `patroller NAME with N cells`, and where there is a radio `and N key cells`")]
     SetForm,
     #[error("expected `TIME NAME hears BEACON at METRES m, strength N, on list N`")]
     HearsForm,
@@ -16,13 +16,19 @@ pub enum Fault {
     SweepsForm,
     #[error("expected `TIME NAME reports list N`")]
     ReportsForm,
-    #[error("expected `TIME NAME loses list N`")]
+    #[error("expected `TIME NAME loses list N` or `TIME NAME loses link`")]
     LosesForm,
     #[error("expected `TIME NAME reads list N at N`")]
     ReadsForm,
     #[error("expected `TIME NAME lists`")]
     ListsForm,
-    #[error("expected `TIME NAME gets N cells`")]
+    #[error("expected `TIME NAME counts`")]
+    CountsForm,
+    #[error("expected `TIME NAME opens link MODE with N bytes`, the mode cbc, cfb, ofb or its number")]
+    OpensForm,
+    #[error("expected `TIME NAME closes link`")]
+    ClosesForm,
+    #[error("expected `TIME NAME gets N cells` or `TIME NAME gets N key cells`")]
     GetsForm,
     #[error("expected `TIME NAME keys CIPHER with N bytes`")]
     KeysForm,
@@ -44,6 +50,8 @@ pub enum Fault {
     SearchFirst,
     #[error("expected no second `search` in a file")]
     OneSearch,
+    #[error("expected no second `radio` in a search, and none after `leader`")]
+    OneRadio,
     #[error("expected `leader NAME with N cells` before this")]
     LeaderFirst,
     #[error("expected no second `leader` in a search")]
@@ -54,6 +62,8 @@ pub enum Fault {
     KnownName,
     #[error("expected the name of a patroller")]
     PatrollerName,
+    #[error("expected a patroller whose link is closed")]
+    OneLink,
     #[error("expected a time not before that of the step above")]
     LaterTime,
     #[error("expected `search TITLE` and `leader NAME with N cells` before the end")]

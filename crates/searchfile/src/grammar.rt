@@ -30,12 +30,22 @@ pub enum Action {
     Lose {
         list: usize,
     },
+    LoseLink,
+    Open {
+        mode: u8,
+        bytes: usize,
+    },
+    Close,
     Read {
         list: usize,
         position: usize,
     },
     List,
+    Count,
     Get {
+        cells: usize,
+    },
+    GetKeyCells {
         cells: usize,
     },
     Key {
@@ -50,10 +60,15 @@ pub enum Statement<'a> {
     Title {
         title: &'a str,
     },
+    Radio {
+        cipher: Pile,
+    },
     Set {
         role: Role,
         name: &'a str,
         cells: usize,
+        // none where the line tells none
+        key_cells: Option<usize>,
     },
     Step {
         second: u32,
@@ -78,6 +93,9 @@ pub fn parse<'a>(heap: Global, line: &'a str) -> Result<Statement<'a>, Fault> {
     match words.as_slice() {
         [] => Ok(Statement::Blank),
         ["search", ..] => title(told),
+        ["radio", named @ ..] => Ok(Statement::Radio {
+            cipher: cipher(named)?,
+        }),
         ["leader", rest @ ..] => declared(Role::Leader, rest),
         ["patroller", rest @ ..] => declared(Role::Patroller, rest),
         [time, name, does, rest @ ..] => step(heap, time, name, does, rest),
@@ -103,11 +121,21 @@ fn title<'a>(told: &'a str) -> Result<Statement<'a>, Fault> {
 }
 
 fn declared<'a>(role: Role, rest: &[&'a str]) -> Result<Statement<'a>, Fault> {
-    let [name, "with", cells, "cells"] = rest else {
+    let [name, "with", cells, "cells", others @ ..] = rest else {
         return Err(Fault::SetForm);
     };
     let cells = number(cells)?;
-    Ok(Statement::Set { role, name, cells })
+    let key_cells = match others {
+        [] => None,
+        ["and", n, "key", "cells"] => Some(number(n)?),
+        _ => return Err(Fault::SetForm),
+    };
+    Ok(Statement::Set {
+        role,
+        name,
+        cells,
+        key_cells,
+    })
 }
 
 fn step<'a>(
@@ -122,9 +150,12 @@ fn step<'a>(
         "hears" => hears(second, rest),
         "sweeps" => sweeps(heap, second, rest),
         "reports" => one_list(rest, Fault::ReportsForm).map(|list| Action::Report { list }),
-        "loses" => one_list(rest, Fault::LosesForm).map(|list| Action::Lose { list }),
+        "loses" => loses(rest),
+        "opens" => opens(rest),
+        "closes" => closes(rest),
         "reads" => reads(rest),
-        "lists" => lists(rest),
+        "lists" => alone(rest, Action::List, Fault::ListsForm),
+        "counts" => alone(rest, Action::Count, Fault::CountsForm),
         "gets" => gets(rest),
         "keys" => keys(rest),
         _ => Err(Fault::Statement),
@@ -188,29 +219,70 @@ fn reads(rest: &[&str]) -> Result<Action, Fault> {
     Ok(Action::Read { list, position })
 }
 
-fn lists(rest: &[&str]) -> Result<Action, Fault> {
-    if rest.is_empty() {
-        Ok(Action::List)
-    } else {
-        Err(Fault::ListsForm)
+// An action that has no more words.
+fn alone(rest: &[&str], action: Action, form: Fault) -> Result<Action, Fault> {
+    match rest {
+        [] => Ok(action),
+        _ => Err(form),
+    }
+}
+
+fn loses(rest: &[&str]) -> Result<Action, Fault> {
+    match rest {
+        ["link"] => Ok(Action::LoseLink),
+        _ => one_list(rest, Fault::LosesForm).map(|list| Action::Lose { list }),
+    }
+}
+
+fn closes(rest: &[&str]) -> Result<Action, Fault> {
+    match rest {
+        ["link"] => Ok(Action::Close),
+        _ => Err(Fault::ClosesForm),
+    }
+}
+
+fn opens(rest: &[&str]) -> Result<Action, Fault> {
+    let ["link", mode, "with", bytes, "bytes"] = rest else {
+        return Err(Fault::OpensForm);
+    };
+    let mode = mode_number(mode)?;
+    let bytes = number(bytes)?;
+    Ok(Action::Open { mode, bytes })
+}
+
+// A mode by its name; a number is passed on as it stands.
+fn mode_number(text: &str) -> Result<u8, Fault> {
+    match text {
+        "cbc" => Ok(1),
+        "cfb" => Ok(2),
+        "ofb" => Ok(3),
+        _ => u8::try_from(number(text)?).map_err(|_| Fault::OpensForm),
     }
 }
 
 fn gets(rest: &[&str]) -> Result<Action, Fault> {
-    let [cells, "cells"] = rest else {
-        return Err(Fault::GetsForm);
-    };
-    let cells = number(cells)?;
-    Ok(Action::Get { cells })
+    match rest {
+        [cells, "cells"] => Ok(Action::Get {
+            cells: number(cells)?,
+        }),
+        [cells, "key", "cells"] => Ok(Action::GetKeyCells {
+            cells: number(cells)?,
+        }),
+        _ => Err(Fault::GetsForm),
+    }
 }
 
 fn keys(rest: &[&str]) -> Result<Action, Fault> {
-    let [cipher @ .., "with", bytes, "bytes"] = rest else {
+    let [named @ .., "with", bytes, "bytes"] = rest else {
         return Err(Fault::KeysForm);
     };
-    let cipher = Pile::named(cipher).ok_or(Fault::CipherForm)?;
+    let cipher = cipher(named)?;
     let bytes = number(bytes)?;
     Ok(Action::Key { cipher, bytes })
+}
+
+fn cipher(words: &[&str]) -> Result<Pile, Fault> {
+    Pile::named(words).ok_or(Fault::CipherForm)
 }
 
 fn number(text: &str) -> Result<usize, Fault>

@@ -1,0 +1,29 @@
+// A report as it goes over a link: how many records, in two bytes, the most significant first, and then each record's bytes.
+ghost use Rattle.std.specs.Prelude.{◌<◌, length, IfSome};
+
+use signal::SignalRecord;
+use std::alloc::{AllocError, Global};
+
+// The bytes of a record.
+const RECORD: usize = 11;
+
+// The bytes of a report. A list has at most 256 records.
+pub(super) fn written(heap: Global, records: &[SignalRecord]) -> Result<Vec<u8>, AllocError> {
+    let count = u16::try_from(records.len()).unwrap_or(u16::MAX);
+    let mut text = Vec::from_slice(heap, &count.to_be_bytes())?;
+    for record in records {
+        text.extend_from_slice(&record.to_bytes())?;
+    }
+    Ok(text)
+}
+
+// The records of the first report of a text, once it has come whole, and what came after it.
+pub(super) fn first(text: &[u8]) -> Option<(&[[u8; RECORD]], &[u8])>
+    ensures { IfSome result (λ r. length r.1.now < length text.now) }
+{
+    let (count, rest) = text.split_first_chunk::<2>()?;
+    let bytes = RECORD * usize::from(u16::from_be_bytes(*count));
+    let (body, rest) = rest.split_at_checked(bytes)?;
+    let (records, _) = body.as_chunks::<RECORD>();
+    Some((records, rest))
+}
