@@ -1,15 +1,9 @@
-use Rattle.std.proofs.Common.{◌≡◌, Bool, true, false, MatchBool, sym, refl, ◌∙◌, subst, arith}
+use Rattle.std.proofs.Common.{◌≡◌, Bool, true, false, MatchBool, sym, refl, ◌∙◌, subst}
 use Rattle.bank_calls.specs.Calls.{Kept, Shuts, StrikesOne}
 use Rattle.bank_calls.specs.Table.{at}
-use Rattle.bank_calls.proofs.Tables.{open_below}
 use Rattle.bank_calls.proofs.Closes.{strikes_as}
 use Rattle.bank_calls.proofs.Adds.{adds_strike}
 use Rattle.bank_calls.proofs.state.Bank.strike.Goals as goal
-
-pub close-requires : goal.close-requires
-close-requires g c =
-    let b = c.args.self.now in
-    omega (arith, open_below b.links c.args.ticket.link (sym c.is_open.ensures ∙ c.if-is_open.true), b.eight)
 
 pub returns-then-is_open : goal.returns-then-is_open
 returns-then-is_open g c =
