@@ -16,7 +16,7 @@ use std::alloc::{AllocError, Global};
 
 // As many cells as a shelf can have, and so the longest list. A shelf counts in `u16`, and an `ArrayVec` asks for a `usize`, which the
 // language does not compute of another constant.
-const MOST_CELLS: usize = 256;
+pub(super) const MOST_CELLS: usize = 256;
 
 // Why a set is given no cells: its shelf refuses, or no memory is left.
 #[derive(Clone, Copy)]

@@ -1,7 +1,7 @@
 // The radio links of a search, each from a patroller's set to the leader's: opened, reported over, closed, lost.
 use super::channel::{Broken, Channel, Sides, WIDEST};
 use super::course::{PLAIN, Search};
-use super::event::{Event, KeyRoom, Refused, Side, Undone};
+use super::event::{Event, KeyRoom, Side, Undone};
 use super::radio::{Agreed, width};
 use super::report;
 use super::set::Transceiver;
@@ -81,7 +81,7 @@ impl Search {
             return Err(Undone::from(Fault::OneLink));
         }
         if bytes > LONGEST_KEY {
-            // refused by its length alone: no key is made up
+            // refused by its length alone, after its mode: no key is made up (that neither is refused does not come)
             let refusal = Mode::try_from(mode).and_then(|_| cipher.need(bytes)).err();
             return Err(sides.undone(Broken::ByPatroller(refusal.unwrap_or(Refusal::Mode)), None));
         }
@@ -133,14 +133,9 @@ impl Search {
     // A patroller's link ends, and what is still to come of its reports comes.
     pub(super) fn close(&mut self, place: usize) -> Result<Event, Undone> {
         let mut sides = Sides::of(&mut self.sets, place)?;
-        let found = self
-            .channels
-            .iter()
-            .position(|channel| channel.place == place);
-        let Some(at) = found else {
+        let Some(channel) = taken(&mut self.channels, place) else {
             return Err(sides.undone(Broken::ByPatroller(Refusal::Closed), None));
         };
-        let channel = self.channels.swap_remove(at);
         let (link, _) = channel.links();
         let mut came = channel
             .close(&mut sides)
@@ -158,14 +153,9 @@ impl Search {
     // A patroller is out of range: what is under way on its link is lost.
     pub(super) fn lose_link(&mut self, place: usize) -> Result<Event, Undone> {
         let mut sides = Sides::of(&mut self.sets, place)?;
-        let found = self
-            .channels
-            .iter()
-            .position(|channel| channel.place == place);
-        let Some(at) = found else {
+        let Some(channel) = taken(&mut self.channels, place) else {
             return Err(sides.undone(Broken::ByPatroller(Refusal::Closed), None));
         };
-        let channel = self.channels.swap_remove(at);
         let (link, _) = channel.links();
         channel.strike(&mut sides);
         Ok(Event::LinkLost {
@@ -197,6 +187,12 @@ impl Search {
         }
         channels.destroy_empty();
     }
+}
+
+// Takes the channel of a patroller out of the open ones.
+fn taken(channels: &mut Vec<Channel>, place: usize) -> Option<Channel> {
+    let at = channels.iter().position(|channel| channel.place == place)?;
+    Some(channels.swap_remove(at))
 }
 
 // The key of link n of a search. Which keys sets use is for others to say; here they are made up, each from its number.

@@ -2,7 +2,7 @@
 ghost use Rattle.std.specs.Prelude.{◌≤◌};
 ghost use Rattle.bank_calls.specs.Calls.{Written, reason};
 
-use super::calls::SizeError;
+use super::calls::{MOST_CELLS, SizeError};
 use bank_calls::{Bank, Returned, Ticket};
 use ciphers::{Coated, Narrow, Pile, Wide};
 use kit::width_of;
@@ -10,8 +10,7 @@ use refusal::Refusal;
 use shelf::KeyCell;
 use std::alloc::Global;
 
-const MOST_CELLS: usize = 256;
-
+// The scratch that a bank asks for.
 const SCRATCH: usize = 1536;
 
 // A bank for ciphers of either width: a kit's width is in its type, so that each is a bank of its own.
@@ -70,6 +69,7 @@ impl Radio {
 
     // Sets the number of key cells, once, and brings their memory.
     pub(super) fn size(&mut self, heap: Global, n: usize) -> Result<(), SizeError> {
+        // as for a shelf: memory first, and none where the bank will refuse
         let room = if n <= MOST_CELLS { n } else { 0 };
         let cells = vec![in heap; [0; 16]; room]?;
         of_bank!(&mut self.links, bank => bank.size(n))?;
