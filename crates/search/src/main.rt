@@ -17,11 +17,13 @@ Goes through each search file in turn and prints each step, each refusal with it
 number, and what the leader's lists then tell the probers. Then writes the season's
 file, one line a record, to PATH; to standard output where no PATH is given.
 
-  --season PATH   where the season's file goes; a file that is there is replaced
+  --season PATH   where the season's file goes; an older season's file there is
+                  replaced, any other file is left alone and told
   --help          this text
 
 docs/FORMATS.md has the form of both files. A line that is none is told with its
-number and what was expected there; no season's file is written then.";
+number and what was expected there; no season's file is written then. How far a
+long file is, is told on standard error every 10000 lines.";
 
 fn main(rt: HostRuntime) -> ExitCode {
     match start(&rt) {
@@ -37,7 +39,7 @@ fn start(rt: &HostRuntime) -> Result<(), Stop> {
         .map_err(Wrong::from)
         .and_then(|words| Asked::read(rt.alloc(), words.as_slice()));
     match asked.map_err(|what| wrong(rt, what))? {
-        Asked::Help => Ok(rt.println(HELP)?),
+        Asked::Help => rt.println(HELP).map_err(|e| run::unprinted(rt, e)),
         Asked::Run(options) => all(rt, &options),
     }
 }
@@ -53,6 +55,9 @@ fn all(rt: &HostRuntime, options: &Options) -> Result<(), Stop> {
     if options.replaces_a_file() {
         return Err(wrong(rt, Wrong::Replaces));
     }
+    if let Some(path) = &options.season {
+        replaceable(rt, path.as_str())?;
+    }
     let mut season = String::from_str(rt.alloc(), patrol::HEADING).map_err(|e| wrong(
         rt,
         Wrong::from(e),
@@ -61,18 +66,39 @@ fn all(rt: &HostRuntime, options: &Options) -> Result<(), Stop> {
         run::file(rt, name.as_str(), &mut season)?;
     }
     match &options.season {
-        None => Ok(print!(rt; "\n{season}")?),
-        Some(path) => save(rt, path.as_str(), season.as_str()).map_err(|e| run::unusable(
-            rt,
-            path.as_str(),
-            e,
-        )),
+        None => print!(rt; "\n{season}").map_err(|e| run::unprinted(rt, e)),
+        Some(path) => save(rt, path.as_str(), season.as_str()),
     }
 }
 
+// The file that a season's file is first written to.
+fn beside(rt: &HostRuntime, path: &str) -> Result<String, Stop> {
+    format!(in rt.alloc(); "{path}.new").map_err(|e| wrong(rt, Wrong::from(e)))
+}
+
+// A season's file takes the place of none, of an empty or of an older season's file, and of no other: here and beside.
+fn replaceable(rt: &HostRuntime, path: &str) -> Result<(), Stop> {
+    let beside = beside(rt, path)?;
+    if is_another(rt, path) || is_another(rt, beside.as_str()) {
+        return Err(wrong(rt, Wrong::Another));
+    }
+    Ok(())
+}
+
+// Whether a file is there that can be read and is neither empty nor a season's.
+fn is_another(rt: &HostRuntime, path: &str) -> bool {
+    fs::read(rt, path).is_ok_and(|old| {
+        let old = old.as_slice();
+        !old.is_empty() && !old.starts_with(patrol::HEADING.as_bytes())
+    })
+}
+
 // Writes a file beside the old one and then puts it in its place, so that a full disk takes nothing away.
-fn save(rt: &HostRuntime, path: &str, text: &str) -> io::Result<()> {
-    let beside = format!(in rt.alloc(); "{path}.new")?;
-    fs::write(rt, beside.as_str(), text)?;
-    fs::rename(rt, beside.as_str(), path)
+fn save(rt: &HostRuntime, path: &str, text: &str) -> Result<(), Stop> {
+    let beside = beside(rt, path)?;
+    fs::write(rt, beside.as_str(), text).map_err(|e| run::unusable(rt, beside.as_str(), e))?;
+    fs::rename(rt, beside.as_str(), path).map_err(|e| {
+        let _ = eprintln!(rt; "search: the season's file lies in {beside}");
+        run::unusable(rt, path, e)
+    })
 }

@@ -27,6 +27,8 @@ pub enum Wrong {
     TwoPaths,
     #[error("expected a path for the season's file that is no search file")]
     Replaces,
+    #[error("expected nothing but an older season's file at the path after --season, or at that path with .new")]
+    Another,
     #[error("expected no other option than --season and --help")]
     Unknown,
     #[error("no memory is left")]

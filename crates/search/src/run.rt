@@ -5,6 +5,9 @@ use signal::Clock;
 use std::{fs, io};
 use thiserror::Error;
 
+// After so many lines of a file a line on standard error tells how far it is.
+const LINES_A_SIGN: usize = 10_000;
+
 // The program stops before its end. What is wrong has then been told.
 pub struct Stop;
 
@@ -28,6 +31,11 @@ enum Undone {
 pub fn unusable(rt: &HostRuntime, path: &str, e: io::Error) -> Stop {
     let _ = eprintln!(rt; "search: {path}: {e}");
     Stop
+}
+
+// Tells that standard output can't be written.
+pub fn unprinted(rt: &HostRuntime, e: io::Error) -> Stop {
+    unusable(rt, "standard output", e)
 }
 
 // Goes through one file, and adds its records to the season's text.
@@ -64,22 +72,32 @@ struct Reading<'a> {
 }
 
 impl Reading<'_> {
-    // Goes through the lines of a text.
+    // Goes through the lines of a text. A byte order mark before the first is no part of it.
     fn through(&mut self, text: &str, season: &mut String) -> Result<(), Stop> {
+        let text = text.strip_prefix('\u{FEFF}').unwrap_or(text);
+        let all = text.lines().count();
         for (number, line) in (1..).zip(text.lines()) {
             self.one(line)
                 .map_err(|undone| self.told(number, line, undone))?;
+            if number % LINES_A_SIGN == 0 {
+                self.sign(number, all);
+            }
         }
-        self.ending(season).map_err(|undone| {
-            let number = text.lines().count().saturating_add(1);
-            self.told(number, "", undone)
-        })
+        self.ending(season)
+            .map_err(|undone| self.told(all.saturating_add(1), "", undone))
+    }
+
+    // A sign of life on standard error: how far a long file is.
+    fn sign(&self, number: usize, all: usize) {
+        let path = self.path;
+        let _ = eprintln!(self.rt; "{path}: {number} of {all} lines");
     }
 
     // Tells a bad line: where, what was expected, and the line's beginning.
     fn told(&self, number: usize, line: &str, undone: Undone) -> Stop {
-        let Undone::Fault(fault) = undone else {
-            return Stop;
+        let fault = match undone {
+            Undone::Fault(fault) => fault,
+            Undone::Printing(e) => return unprinted(self.rt, e),
         };
         let path = self.path;
         let _ = eprintln!(self.rt; "{path}:{number}: {fault}");
@@ -87,7 +105,7 @@ impl Reading<'_> {
             .trim()
             .chars()
             .take(100)
-            .map(|c| if c < ' ' { '?' } else { c })
+            .map(|c| if c.is_control() { '?' } else { c })
             .collect::<String>(self.rt.alloc());
         if let Ok(shown) = shown
             && !shown.is_empty()

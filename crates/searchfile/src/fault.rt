@@ -46,6 +46,8 @@ pub enum Fault {
     Number,
     #[error("expected text in UTF-8")]
     Text,
+    #[error("expected text without control characters")]
+    Control,
     #[error("expected `search TITLE` before this")]
     SearchFirst,
     #[error("expected no second `search` in a file")]

@@ -89,6 +89,9 @@ impl fmt::Display for Role {
 // The statement on a line.
 pub fn parse<'a>(heap: Global, line: &'a str) -> Result<Statement<'a>, Fault> {
     let told = line.split_once('#').map_or(line, |(before, _)| before);
+    if told.chars().any(|c| c.is_control() && c != '\t') {
+        return Err(Fault::Control);
+    }
     let words = words(heap, told)?;
     match words.as_slice() {
         [] => Ok(Statement::Blank),
@@ -114,7 +117,7 @@ fn words<'a>(heap: Global, told: &'a str) -> Result<Vec<&'a str>, AllocError> {
 fn title<'a>(told: &'a str) -> Result<Statement<'a>, Fault> {
     told.trim()
         .strip_prefix("search")
-        .map(|rest| rest.trim())
+        .map(|rest| rest.trim_start_matches([',', ';', ':']).trim())
         .filter(|title| !title.is_empty())
         .map(|title| Statement::Title { title })
         .ok_or(Fault::TitleForm)
