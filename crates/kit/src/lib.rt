@@ -16,12 +16,13 @@ pub trait Width {
     // for the length of an array of a caller's; code over any width asks `width()`
     const BYTES: usize;
 
-    ghost bytes: { ℕ };
+    // of the same name, so that each `impl` is held to its constant too
+    ghost BYTES: { ℕ };
 
     fn width() -> usize
-        ensures { result ≡ bytes };
+        ensures { result ≡ BYTES };
 
-    ghost one: { (bytes ≡ 16) ⊎ (bytes ≡ 32) };
+    ghost one: { (BYTES ≡ 16) ⊎ (BYTES ≡ 32) };
 }
 
 // Two types, with an impl each: a type over a const parameter would have every width, and no bound rules the others out.
@@ -37,7 +38,7 @@ pub struct Wide;
 impl Width for Narrow {
     const BYTES: usize = 16;
 
-    ghost bytes = { 16 };
+    ghost BYTES = { 16 };
 
     ghost one = { Prim.search rules };
 
@@ -49,7 +50,7 @@ impl Width for Narrow {
 impl Width for Wide {
     const BYTES: usize = 32;
 
-    ghost bytes = { 32 };
+    ghost BYTES = { 32 };
 
     ghost one = { Prim.search rules };
 
@@ -85,7 +86,7 @@ pub trait Kit {
         ensures outcome { refusal result ≡ cipher_refusal (meaning self.now) len schedule.now block.old }
         ensures written { block.new ≡ deciphered (meaning self.now) len schedule.now block.old };
 
-    ghost width: { (k : Self) → (meaning k).width ≡ Self.Width.Width.bytes };
+    ghost width: { (k : Self) → (meaning k).width ≡ Self.Width.Width.BYTES };
 
     ghost sound: { (k : Self) → Sound (meaning k) };
 }

@@ -208,7 +208,7 @@ module _ {T : Type 0} where
 pub law : {T : Type 0} → Law T
 law n past s own ran =
     let says = says_after ran in
-    record { lawful = says.lawful; fits = says.fits; tells = free_left says; lists = says.lists }
+    record { lawful = says.lawful; fits = says.fits; tells = free_left says; counts = long_left says; lists = says.lists }
 
 -- ---- how a call adds itself to a past
 

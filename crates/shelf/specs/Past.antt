@@ -74,11 +74,12 @@ pub data Ran {T : Type 0} (n : ℕ) : List (Call T) → Standing → List T → 
       → Ran n past s own → Drop s c r s' → Ran n (drop c r ∷ past) s' own
 
 -- The law of every past: each answer in it is the one due; the past never leaves more items than there are cells; and
--- the shelf tells as free the cells that the past has left free, and lists in each chain the items that it has left there.
+-- the shelf tells as free the cells that the past has left free, and counts and lists in each chain the items that it has left there.
 pub record LawAfter {T : Type 0} (n : ℕ) (past : List (Call T)) (s : Standing) (own : List T) : Type 0 where
   pub lawful : Lawful n past
   pub fits : total (λ c. length (left past c)) ≤ n
   pub tells : free s ≡ room n past
+  pub counts : (c : ℕ) → c < 16 → length (s.chain c) ≡ length (left past c)
   pub lists : (c : ℕ) → c < 16 → list s own c ≡ left past c
 
 abbrev pub Law : Type 0 → Type 0
