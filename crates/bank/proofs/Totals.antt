@@ -90,8 +90,10 @@ module _ (m : Meaning) where
   pub told_ran : (n : ℕ) (past : List Event) (b : Books) → Ran m n past b → Told m n past b
   told_ran n past b r =
       let match = match_ran n past b r in
+      let cells = eight_same (λ j. cells_if_open (b.link j)) (λ j. need_if_open m (open_now past j)) (λ j. (match j).cells) in
       record {
-        free = omega (arith, room_ran n past b r, eight_same (λ j. cells_if_open (b.link j)) (λ j. need_if_open m (open_now past j)) (λ j. (match j).cells));
+        fits = omega (arith, room_ran n past b r, cells);
+        free = omega (arith, room_ran n past b r, cells);
         «open» = eight_same (λ j. one_if_open (b.link j)) (λ j. one_if_open (open_now past j)) (λ j. (match j).opened);
       }
 

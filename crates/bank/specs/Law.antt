@@ -1,5 +1,5 @@
 -- The law of banks, over every kit that keeps the meaning and every past. Assumes nothing.
-use Rattle.std.specs.Prelude.{◌≡◌, ℕ, ◌-◌, ◌<◌, List, ◌∷◌, ◌++◌, length, None, Ok, Err, Result, ◌≢◌}
+use Rattle.std.specs.Prelude.{◌≡◌, ℕ, ◌-◌, ◌<◌, ◌≤◌, List, ◌∷◌, ◌++◌, length, None, Ok, Err, Result, ◌≢◌}
 use Rattle.refusal.specs.Checks.{first}
 use Rattle.refusal.specs.declared.Refusal.{Refusal}
 use Rattle.refusal.specs.declared.Refusal.TheVariants.{Cells, Ragged, Padding}
@@ -38,8 +38,9 @@ Hears m past m' past' = (a a' : Ask) (text bytes last bytes' : List ℕ) (answer
     → Session past' a' (bytes ++ last) bytes' answer
     → (answer ≢ Err Ragged) × (answer ≢ Err Padding) × ((last' : List ℕ) → answer ≡ Ok last' → bytes' ++ last' ≡ text)
 
--- what the books tell is what the past tells
+-- What the books tell is what the past tells: the open links never have more cells than there are, and the others are free.
 pub record Told (m : Meaning) (n : ℕ) (past : List Event) (b : Books) : Type 0 where
+  pub fits : cells_now m past ≤ n
   pub free : b.room ≡ n - cells_now m past
   pub «open» : links b ≡ links_now past
 
