@@ -1,8 +1,10 @@
 // The comparisons: a value with the one that is due, a block enciphered, an answer deciphered.
 // Promises that what passes is equal, and what a passed answer says of the cipher's definition.
 // Rests on the ciphers (cipher).
-ghost use Rattle.std.specs.Prelude.{◌≡◌, ◌*◌, take, drop, length, IfOk, OnOk};
+ghost use Rattle.std.specs.Prelude.{◌≡◌, ◌*◌, take, drop, length, IfOk, IfErr, OnOk};
 ghost use Rattle.compare.specs.Ciphers.{meaning, ciphered};
+ghost use Rattle.compare.specs.Faults.{Tells, Explains};
+ghost use Rattle.compare.specs.declared.fault.Value.TheVariants.{Answer};
 
 use crate::cipher::Cipher;
 use crate::fault::{Fault, Value, Way};
@@ -10,12 +12,13 @@ use std::alloc::Global;
 
 // Passes where the program's value is the one that the data have.
 pub fn hold(heap: Global, value: Value, found: &[u8], due: &[u8]) -> Result<(), Fault>
-    ensures { OnOk result (found.now ≡ due.now) }
+    ensures passes { OnOk result (found.now ≡ due.now) }
+    ensures fault { IfErr result (λ fault. Tells value found.now due.now fault) }
 {
     if found == due {
         return Ok(());
     }
-    let found = hex::encode_upper(heap, found)?;
+    let found = hex::encode_upper(heap, found).map_err(Fault::Memory)?;
     Err(Fault::Differs { value, found })
 }
 
@@ -45,17 +48,20 @@ impl Keyed {
 
     // Compares what the cipher makes of `given`, one way or the other, with what is due.
     pub fn answer(&self, heap: Global, way: Way, given: &[u8], due: &[u8]) -> Result<(), Fault>
-        ensures { OnOk result (ciphered way (meaning self.now.cipher) self.now.length self.now.schedule.items given.now ≡ due.now) }
+        ensures passes { OnOk result (ciphered way (meaning self.now.cipher) self.now.length self.now.schedule.items given.now ≡ due.now) }
+        ensures fault { IfErr result (λ fault. Explains (Answer way) (ciphered way (meaning self.now.cipher) self.now.length self.now.schedule.items given.now) due.now fault) }
     {
-        let mut block = Vec::from_slice(heap, given)?;
+        let mut block = Vec::from_slice(heap, given).map_err(Fault::Memory)?;
         let schedule = self.schedule.as_slice();
         match way {
             Way::Forth => self
                 .cipher
-                .encipher(self.length, schedule, block.as_mut_slice())?,
+                .encipher(self.length, schedule, block.as_mut_slice())
+                .map_err(Fault::Refused)?,
             Way::Back => self
                 .cipher
-                .decipher(self.length, schedule, block.as_mut_slice())?,
+                .decipher(self.length, schedule, block.as_mut_slice())
+                .map_err(Fault::Refused)?,
         }
         hold(heap, Value::Answer(way), block.as_slice(), due)
     }
