@@ -1,16 +1,33 @@
 -- What the figures of a line say, and which fault is told where one is none. Assumes nothing.
 -- Of signal: `Figure` and `DistanceText` say which texts are a figure. Of std and signal: `digits_value` and `decimetres` say what it is.
-use Rattle.std.specs.Prelude.{◌≡◌, ℕ, ◌<◌, List, length, Ok, Err, Result}
+use Rattle.std.specs.Prelude.{◌≡◌, ◌≢◌, ℕ, ◌<◌, List, length, codes, Ok, Err, Result}
 use Rattle.std.specs.Str.Parse.{digits_value}
 use Rattle.signal.specs.Figures.{Figure, DistanceText, decimetres}
 use Rattle.signal.specs.declared.record.SignalRecord.{SignalRecord}
 use Rattle.searchfile.specs.declared.fault.Fault.{Fault}
-use Rattle.searchfile.specs.declared.fault.Fault.TheVariants.{Number, Beacon, Distance, Strength}
+use Rattle.searchfile.specs.declared.fault.Fault.TheVariants.{Number, OpensForm, Beacon, Distance, Strength}
 
 -- a whole number, or the fault that says so
 abbrev pub Numbered : List ℕ → Result ℕ Fault → Type 0
 Numbered text (Ok n) = Figure 10 text × (n ≡ digits_value 10 text)
 Numbered text (Err e) = (Figure 10 text → ⊥) × (e ≡ Number)
+
+-- the number of the mode that a word names, or that it writes
+pub data ModeNumber (text : List ℕ) : ℕ → Type 0 where
+  cbc : text ≡ codes "cbc" → ModeNumber text 1
+  cfb : text ≡ codes "cfb" → ModeNumber text 2
+  ofb : text ≡ codes "ofb" → ModeNumber text 3
+  written : {n : ℕ} → Figure 10 text → n ≡ digits_value 10 text → n < 256 → ModeNumber text n
+
+-- a word that does neither
+pub record NoMode (text : List ℕ) (e : Fault) : Type 0 where
+  pub unnamed : (text ≢ codes "cbc") × (text ≢ codes "cfb") × (text ≢ codes "ofb")
+  pub large : Figure 10 text → (digits_value 10 text < 256 → ⊥) × (e ≡ OpensForm)
+  pub no_number : (Figure 10 text → ⊥) → e ≡ Number
+
+abbrev pub ModeNumbered : List ℕ → Result ℕ Fault → Type 0
+ModeNumbered text (Ok n) = ModeNumber text n
+ModeNumbered text (Err e) = NoMode text e
 
 abbrev pub IsBeacon : List ℕ → Type 0
 IsBeacon text = Figure 16 text × (length text ≡ 8)

@@ -1,11 +1,14 @@
 // The search file's grammar: one statement a line, from `#` on a comment. A comma, a semicolon or a colon after a word is for the eye.
-ghost use Rattle.searchfile.specs.Lines.{Numbered, Recorded};
+ghost use Rattle.searchfile.specs.Lines.{Numbered, ModeNumbered, Recorded};
 
 use super::fault::Fault;
 use ciphers::Pile;
 use signal::SignalRecord;
 use std::alloc::{AllocError, Global};
 use std::fmt;
+
+// What may stand behind a word for the eye.
+const MARKS: [char; 3] = [',', ';', ':'];
 
 #[derive(Clone, Copy, PartialEq, Eq, Debug)]
 pub enum Role {
@@ -109,7 +112,7 @@ pub fn parse<'a>(heap: Global, line: &'a str) -> Result<Statement<'a>, Fault> {
 // The words of a line, without the marks behind them.
 fn words<'a>(heap: Global, told: &'a str) -> Result<Vec<&'a str>, AllocError> {
     told.split_whitespace()
-        .map(|word| word.trim_end_matches([',', ';', ':']))
+        .map(|word| word.trim_end_matches(MARKS))
         .filter(|bare| !bare.is_empty())
         .collect(heap)
 }
@@ -117,7 +120,7 @@ fn words<'a>(heap: Global, told: &'a str) -> Result<Vec<&'a str>, AllocError> {
 fn title<'a>(told: &'a str) -> Result<Statement<'a>, Fault> {
     told.trim()
         .strip_prefix("search")
-        .map(|rest| rest.trim_start_matches([',', ';', ':']).trim())
+        .map(|rest| rest.trim().trim_start_matches(MARKS).trim())
         .filter(|title| !title.is_empty())
         .map(|title| Statement::Title { title })
         .ok_or(Fault::TitleForm)
@@ -254,12 +257,14 @@ fn opens(rest: &[&str]) -> Result<Action, Fault> {
 }
 
 // A mode by its name; a number is passed on as it stands.
-fn mode_number(text: &str) -> Result<u8, Fault> {
+fn mode_number(text: &str) -> Result<u8, Fault>
+    ensures { ModeNumbered text.now result }
+{
     match text {
         "cbc" => Ok(1),
         "cfb" => Ok(2),
         "ofb" => Ok(3),
-        _ => u8::try_from(number(text)?).map_err(|_| Fault::OpensForm),
+        _ => u8::try_from(number(text)?).ok().ok_or(Fault::OpensForm),
     }
 }
 

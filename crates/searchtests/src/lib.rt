@@ -168,6 +168,110 @@ mod tests {
             ],
         )
     }
+
+    // Each form of a line that is not kept, and what is told of it.
+    #[test]
+    fn forms(rt: HostRuntime) -> Result<(), Fail> {
+        let statement =
+            "expected `search`, `radio`, `leader`, `patroller`, or a time, a set and what it does";
+        let set =
+            "expected `leader NAME with N cells` or `patroller NAME with N cells`, and where there is a radio `and N key cells`";
+        let opens =
+            "expected `TIME NAME opens link MODE with N bytes`, the mode cbc, cfb, ofb or its number";
+        let cipher =
+            "expected a cipher: aes, mkv128, mkv256, whitened before one, or two of one width as aes 16 mkv128";
+        let sweeps = "expected `TIME NAME sweeps list N: BEACON METRES m N; ...`";
+        let number = "expected a whole number of at most 15 digits";
+        holds(
+            &rt,
+            &[
+                ("search: # without a title", "expected `search TITLE`"),
+                ("radio des", cipher),
+                ("search Forms", ""),
+                ("search Again", "expected no second `search` in a file"),
+                ("radio", cipher),
+                ("radio whitened", cipher),
+                ("radio aes 16 mkv256", cipher),
+                ("leader Mara with 9 cell", set),
+                ("leader Mara with 9 cells and 9 cells", set),
+                ("leader Mara with 9 cells and x key cells", number),
+                ("leader: Mara, with 9 cells;", "has 9 cells"),
+                (
+                    "leader Ada with 9 cells",
+                    "expected no second `leader` in a search",
+                ),
+                ("patroller with 9 cells", set),
+                (" \t # nothing but a comment", ""),
+                ("Mara counts", statement),
+                ("0:00:00 Mara rests", statement),
+                (
+                    "00:00 Mara counts",
+                    "expected a time of the search as h:mm:ss, first on the line",
+                ),
+                ("0:00:00 Mara counts cells", "expected `TIME NAME counts`"),
+                (
+                    "0:00:00 Mara hears 1A2B3C4D at 1.0 m, strength 1, on list",
+                    "expected `TIME NAME hears BEACON at METRES m, strength N, on list N`",
+                ),
+                (
+                    "0:00:00 Mara hears 1A2B3C4D at 1.0 m, strength 1, on list x",
+                    number,
+                ),
+                ("0:00:00 Mara sweeps 1: 1A2B3C4D 1.0 m 1", sweeps),
+                ("0:00:00 Mara sweeps list 1: 1A2B3C4D 1.0 m", sweeps),
+                (
+                    "0:00:00 Mara sweeps list 1: 1A2B3C4D 1.0 m 1; 1A2B3C4D 1.0 n 1",
+                    sweeps,
+                ),
+                ("0:00:00 Mara sweeps list x: 1A2B3C4D 1.0 m 1", number),
+                (
+                    "0:00:00 Mara sweeps list 1: 1A2B3C4D 1.0 m 1; 1A2B3C4D 1.00 m 1",
+                    "expected a distance up to 6553.5 with one decimal, as 18.4",
+                ),
+                (
+                    "0:00:00 Mara reports 1",
+                    "expected `TIME NAME reports list N`",
+                ),
+                ("0:00:00 Mara reports list x", number),
+                (
+                    "0:00:00 Mara loses links",
+                    "expected `TIME NAME loses list N` or `TIME NAME loses link`",
+                ),
+                (
+                    "0:00:00 Mara closes list 1",
+                    "expected `TIME NAME closes link`",
+                ),
+                (
+                    "0:00:00 Mara reads list 0",
+                    "expected `TIME NAME reads list N at N`",
+                ),
+                ("0:00:00 Mara reads list 0 at 1234567890123456", number),
+                (
+                    "0:00:00 Mara gets 9",
+                    "expected `TIME NAME gets N cells` or `TIME NAME gets N key cells`",
+                ),
+                ("0:00:00 Mara gets x key cells", number),
+                (
+                    "0:00:00 Mara keys aes 16 bytes",
+                    "expected `TIME NAME keys CIPHER with N bytes`",
+                ),
+                ("0:00:00 Mara keys with 16 bytes", cipher),
+                ("0:00:00 Mara keys aes with x bytes", number),
+                ("0:00:00 Mara opens link 256 with 16 bytes", opens),
+                ("0:00:00 Mara opens link des with 16 bytes", number),
+                ("0:00:00 Mara opens link cbc with x bytes", number),
+                (
+                    "0:00:02, Mara; counts: # later",
+                    "9 cells and 0 key cells free, 0 links open",
+                ),
+                (
+                    "0:00:01 Mara counts",
+                    "expected a time not before that of the step above",
+                ),
+            ],
+        )
+    }
+
     // Links of both widths: opened, reported over, closed and lost; what a set refuses, and what the leader's.
     #[test]
     fn links(rt: HostRuntime) -> Result<(), Fail> {
