@@ -49,6 +49,7 @@ SameCiphertext = (m : Mode) (k k' : Cipher) (start text bytes : List ℕ) → En
 
 -- ---- sending: from open to end a link gives the mode's ciphertext of what it took
 
+-- all that a sending link gives for a text, from open to end
 abbrev pub sent : Mode → Cipher → List ℕ → List ℕ → List ℕ
 sent m k start text = given m Send k (opened start) text ++ closing m Send k (after m Send k (opened start) text)
 
