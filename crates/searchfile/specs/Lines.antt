@@ -12,6 +12,7 @@ abbrev pub Numbered : List ℕ → Result ℕ Fault → Type 0
 Numbered text (Ok n) = Figure 10 text × (n ≡ digits_value 10 text)
 Numbered text (Err e) = (Figure 10 text → ⊥) × (e ≡ Number)
 
+-- the text of a beacon's identity, and that of a strength
 abbrev pub IsBeacon : List ℕ → Type 0
 IsBeacon text = Figure 16 text × (length text ≡ 8)
 
@@ -31,6 +32,7 @@ pub data Blames (beacon distance strength : List ℕ) : Fault → Type 0 where
   no_distance : IsBeacon beacon → (DistanceText distance → ⊥) → Blames beacon distance strength Distance
   no_strength : IsBeacon beacon → DistanceText distance → (IsStrength strength → ⊥) → Blames beacon distance strength Strength
 
+-- what a record is read as: the one that the texts say, or the fault to blame
 abbrev pub Recorded : ℕ → List ℕ → List ℕ → List ℕ → Result SignalRecord Fault → Type 0
 Recorded second beacon distance strength (Ok r) = Says second beacon distance strength r
 Recorded second beacon distance strength (Err e) = Blames beacon distance strength e

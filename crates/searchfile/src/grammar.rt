@@ -7,6 +7,7 @@ use signal::SignalRecord;
 use std::alloc::{AllocError, Global};
 use std::fmt;
 
+// What a set is in its search.
 #[derive(Clone, Copy, PartialEq, Eq, Debug)]
 pub enum Role {
     Leader,
@@ -54,6 +55,7 @@ pub enum Action {
     },
 }
 
+// What a line says.
 #[derive(Drop)]
 pub enum Statement<'a> {
     Blank,
