@@ -1,6 +1,6 @@
 -- What holds of links over every cipher, in the words of Modes. Assumes nothing.
 -- Of std, `concat`: pieces or blocks joined.
-use Rattle.std.specs.Prelude.{◌≡◌, ℕ, ◌<◌, false, List, [], ◌∷◌, ◌++◌, length}
+use Rattle.std.specs.Prelude.{◌≡◌, ℕ, ◌<◌, false, List, ◌++◌, length}
 use Rattle.std.specs.List.{concat}
 use Rattle.block.specs.Bytes.{Bytes, Block}
 use Rattle.modes.specs.Modes.{Cipher, Ciphertext, Plaintext}
