@@ -3,6 +3,7 @@ use Rattle.std.specs.Prelude.{ℕ, zero, suc, ◌-◌, List}
 use Rattle.block.specs.Words.{word}
 use Rattle.aes.specs.Steps.{sub_bytes, inv_sub_bytes, shift_rows, inv_shift_rows, mix_columns, inv_mix_columns, add_round_key}
 
+-- round key i of a schedule
 abbrev pub round_key : ℕ → List ℕ → List ℕ
 round_key i keys = word 16 i keys
 

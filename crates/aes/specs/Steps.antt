@@ -22,6 +22,7 @@ at r c = r + 4 * c
 unfoldable pub sub_bytes : List ℕ → List ℕ
 sub_bytes b = sub s_box b
 
+-- InvSubBytes: each byte by the inverse table
 unfoldable pub inv_sub_bytes : List ℕ → List ℕ
 inv_sub_bytes b = sub s_box_inverse b
 
@@ -51,6 +52,7 @@ inv_shift_rows b = moved from_left b
 unfoldable pub mix_columns : List ℕ → List ℕ
 mix_columns b = each_word 4 4 (apply aes_poly matrix) b
 
+-- InvMixColumns: each of them times the inverse matrix
 unfoldable pub inv_mix_columns : List ℕ → List ℕ
 inv_mix_columns b = each_word 4 4 (apply aes_poly matrix_inverse) b
 

@@ -16,6 +16,7 @@ abbrev pub cells : ℕ → Option ℕ → Result ℕ KeyFault
 cells len (Some r) = Ok (r + 1)
 cells len None = Err (here len)
 
+-- what a key of len bytes needs
 abbrev pub need : ℕ → Result ℕ KeyFault
 need len = cells len (rounds len)
 
@@ -24,6 +25,7 @@ abbrev pub under : Option ℕ → (ℕ → List ℕ) → List ℕ → List ℕ
 under (Some r) f other = f r
 under None f other = other
 
+-- the schedule of a key, E and D
 abbrev pub schedule : List ℕ → List ℕ
 schedule key = under (rounds (length key)) (λ r. round_keys (length key / 4) r key) []
 
@@ -33,6 +35,7 @@ enc len s b = under (rounds len) (λ r. encipher r s b) b
 abbrev pub dec : ℕ → List ℕ → List ℕ → List ℕ
 dec len s b = under (rounds len) (λ r. decipher r s b) b
 
+-- the kit of AES
 abbrev pub aes : Meaning
 aes = record { width = 16; need = need; schedule = schedule; enc = enc; dec = dec }
 

@@ -1,6 +1,6 @@
 // The block cipher AES as a kit: blocks of 16 bytes, keys of 16, 24 or 32.
 // Promises the standard's cipher as its meaning, refusals included, and every step of a round by itself.
-// Rests on the interface (kit), the rounds (round) and the key expansion (schedule).
+// Rests on the interface of crate kit, the products of crate field, and the XOR and the substitution of crate block.
 #![tactic(auto)]
 
 ghost use Rattle.std.specs.Prelude.{◌≡◌, ◌+◌, ◌*◌, length, IfOk, Some};

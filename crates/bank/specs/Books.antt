@@ -33,6 +33,7 @@ tool m l = record { width = l.width; enc = enciphered m l.key l.schedule; dec = 
 abbrev pub eight : (ℕ → ℕ) → ℕ
 eight f = f 0 + f 1 + f 2 + f 3 + f 4 + f 5 + f 6 + f 7
 
+-- what an open link counts for, among the links and among the cells
 abbrev pub one_if_open : {A : Type 0} → Option A → ℕ
 one_if_open None = 0
 one_if_open (Some l) = 1

@@ -28,6 +28,7 @@ pub record Ask : Type 0 where
 abbrev pub unknown : Ask → Bool
 unknown a = is_err (mode_numbered a.mode) || is_err (direction_numbered a.direction)
 
+-- what a number names; one that names none does not come so far
 abbrev pub mode_of : ℕ → mode.Mode
 mode_of n = elim (mode_numbered n) [ Ok m ↦ m | Err e ↦ Ofb ]
 
@@ -50,6 +51,7 @@ start_checks m size «open» a = (not (length a.start == m.width), Start) ∷ (n
 abbrev pub early_checks : Meaning → (size «open» : ℕ) → Ask → List (Bool × Refusal)
 early_checks m size «open» a = (not (a.scratch == 1536), Scratch) ∷ (unknown a, Mode) ∷ (key_checks (m.need (length a.key)) ++ start_checks m size «open» a)
 
+-- all checks of an open, in order, where `room` cells are free
 abbrev pub open_checks : Meaning → (size «open» room : ℕ) → Ask → List (Bool × Refusal)
 open_checks m size «open» room a = early_checks m size «open» a ++ ((nat_lt room (need m a.key), Cells) ∷ [])
 
@@ -65,6 +67,7 @@ pub record Opened (m : Meaning) (b : Books) (a : Ask) (i : ℕ) (b' : Books) : T
   pub only : Only b i (Some (fresh m a)) b'
   pub room : b'.room + need m a.key ≡ b.room
 
+-- what an open answers and leaves
 abbrev pub Opens : Meaning → Books → Ask → Result ℕ Refusal → Books → Type 0
 Opens m b a r b' = Answers (open_checks m b.size (links b) b.room a) r (λ i. Opened m b a i b') (Same b b')
 
@@ -89,6 +92,7 @@ abbrev pub link_checks : Books → Buffers → Option Running → List (Bool × 
 link_checks b f None = (not (f.scratch == 1536), Scratch) ∷ (true, Closed) ∷ []
 link_checks b f (Some l) = (not (f.scratch == 1536), Scratch) ∷ (not (f.memory == b.size), Memory) ∷ []
 
+-- and then, of a put: 13, the length of the piece; 14, the room for what is due
 abbrev pub put_tail : Meaning → Buffers → Option Running → List ℕ → List (Bool × Refusal)
 put_tail m f None piece = []
 put_tail m f (Some l) piece = (nat_lt 4096 (length piece), Piece) ∷ (nat_lt f.out (length (given_link m l piece)), Output) ∷ []
@@ -96,6 +100,7 @@ put_tail m f (Some l) piece = (nat_lt 4096 (length piece), Piece) ∷ (nat_lt f.
 abbrev pub put_checks : Meaning → Books → Buffers → ℕ → List ℕ → List (Bool × Refusal)
 put_checks m b f i piece = link_checks b f (b.link i) ++ put_tail m f (b.link i) piece
 
+-- accepted: the bytes due are given, and the link has gone on
 pub record Fed (m : Meaning) (b : Books) (i : ℕ) (piece bytes : List ℕ) (b' : Books) : Type 0 where
   pub link : Running
   pub was : b.link i ≡ Some link
@@ -103,14 +108,17 @@ pub record Fed (m : Meaning) (b : Books) (i : ℕ) (piece bytes : List ℕ) (b' 
   pub only : Only b i (Some (fed_link m link piece)) b'
   pub room : b'.room ≡ b.room
 
+-- what a put answers and leaves
 abbrev pub Puts : Meaning → Books → Buffers → ℕ → List ℕ → Result (List ℕ) Refusal → Books → Type 0
 Puts m b f i piece r b' = Answers (put_checks m b f i piece) r (λ bytes. Fed m b i piece bytes b') (Same b b')
 
 -- ---- end
 
+-- the bytes that the end of a link gives
 abbrev pub last_bytes : Meaning → Running → List ℕ
 last_bytes m l = closing l.mode l.direction (tool m l) l.state
 
+-- and then, of an end: 15, 16; 14, the room for the last bytes
 abbrev pub end_tail : Meaning → Buffers → Option Running → List (Bool × Refusal)
 end_tail m f None = []
 end_tail m f (Some l) =
@@ -120,16 +128,19 @@ end_tail m f (Some l) =
 abbrev pub end_checks : Meaning → Books → Buffers → ℕ → List (Bool × Refusal)
 end_checks m b f i = link_checks b f (b.link i) ++ end_tail m f (b.link i)
 
+-- link i, which was l, is closed, and its cells are free
 pub record Closes (b : Books) (i : ℕ) (l : Running) (b' : Books) : Type 0 where
   pub was : b.link i ≡ Some l
   pub only : Only b i None b'
   pub room : b'.room ≡ b.room + l.cells
 
+-- accepted: the last bytes are given, and the link is closed
 pub record Ended (m : Meaning) (b : Books) (i : ℕ) (bytes : List ℕ) (b' : Books) : Type 0 where
   pub link : Running
   pub closes : Closes b i link b'
   pub gives : bytes ≡ last_bytes m link
 
+-- what an end answers and leaves
 abbrev pub Ends : Meaning → Books → Buffers → ℕ → Result (List ℕ) Refusal → Books → Type 0
 Ends m b f i r b' = Answers (end_checks m b f i) r (λ bytes. Ended m b i bytes b') (Same b b')
 
@@ -140,5 +151,6 @@ abbrev pub Struck : Books → ℕ → Option Running → Books → Type 0
 Struck b i None b' = Same b b'
 Struck b i (Some l) b' = Closes b i l b'
 
+-- what a strike leaves
 abbrev pub Strikes : Books → ℕ → Books → Type 0
 Strikes b i b' = Struck b i (b.link i) b'

@@ -9,6 +9,7 @@ use Rattle.bank.specs.Books.{Books, links}
 use Rattle.bank.specs.Calls.{Ask, mode_of, need, early_checks}
 use Rattle.bank.specs.Past.{Event, opens, Ran, Session, cells_now, links_now}
 
+-- each follows from the other
 abbrev pub ExactlyWhen : Type 0 → Type 0 → Type 0
 ExactlyWhen P Q = (P → Q) × (Q → P)
 
@@ -44,11 +45,13 @@ pub record Told (m : Meaning) (n : ℕ) (past : List Event) (b : Books) : Type 0
   pub free : b.room ≡ n - cells_now m past
   pub «open» : links b ≡ links_now past
 
+-- what holds after a past that leaves the books b
 pub record LawAfter (m : Meaning) (n : ℕ) (past : List Event) (b : Books) : Type 0 where
   pub short : ShortOfCells m n past
   pub sends : Sends m past
   pub hears : (m' : Meaning) → Sound m' → (n' : ℕ) (past' : List Event) (b' : Books) → Ran m' n' past' b' → Hears m past m' past'
   pub told : Told m n past b
 
+-- the law of banks
 abbrev pub Law : Type 0
 Law = (m : Meaning) → Sound m → (n : ℕ) (past : List Event) (b : Books) → Ran m n past b → LawAfter m n past b

@@ -26,6 +26,7 @@ open_now (ends j (Ok bytes) ∷ past) i = cond (i == j) None (open_now past i)
 open_now (ends j (Err r) ∷ past) i = open_now past i
 open_now (strikes j ∷ past) i = cond (i == j) None (open_now past i)
 
+-- the cells of a link, if it is open
 abbrev pub need_if_open : Meaning → Option Ask → ℕ
 need_if_open m None = 0
 need_if_open m (Some a) = need m a.key

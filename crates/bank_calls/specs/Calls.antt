@@ -36,12 +36,14 @@ reason (Err e) = Err e.refusal
 
 -- ---- what calls are shown, as a past has it
 
+-- what an open is shown, with a scratch of so many bytes
 abbrev pub asked_with : ℕ → List (List ℕ) → (mode direction : ℕ) → List ℕ → List ℕ → Ask
 asked_with scratch memory mode direction key start = record { scratch = scratch; memory = length memory; mode = mode; direction = direction; key = key; start = start }
 
 abbrev pub asked : List ℕ → List (List ℕ) → (mode direction : ℕ) → List ℕ → List ℕ → Ask
 asked scratch = asked_with (length scratch)
 
+-- the lengths that a put or an end is shown, with a scratch of so many bytes
 abbrev pub lengths_with : ℕ → List (List ℕ) → List ℕ → Buffers
 lengths_with scratch memory out = record { scratch = scratch; memory = length memory; out = length out }
 

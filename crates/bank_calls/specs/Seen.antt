@@ -14,9 +14,11 @@ abbrev pub running : Standing → List (List ℕ) → ℕ → Link → Running
 running s memory i l =
     record { mode = l.mode; direction = l.direction; key = l.key; cells = length (s.chain i); schedule = joined (list s memory i); width = l.width; state = view l }
 
+-- what stands under number i: an open record, or none
 abbrev pub seen : Standing → List (List ℕ) → ℕ → Link → Option Running
 seen s memory i l = cond l.open (Some (running s memory i l)) None
 
+-- the books of a shelf and a table of records
 abbrev pub books_of : Standing → List Link → List (List ℕ) → Books
 books_of s links memory = record { size = s.size; room = free s; link = λ i. seen s memory i (at links i) }
 

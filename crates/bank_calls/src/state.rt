@@ -10,6 +10,7 @@ use shelf::{KeyCell, Shelf};
 // How many links a bank has: a table of fixed memory, since firmware has no heap.
 pub(super) const LINKS: usize = 8;
 
+// Eight links over one kit.
 #[derive(Drop)]
 pub struct Bank<K> {
     pub(super) kit: K,

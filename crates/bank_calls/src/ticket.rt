@@ -3,6 +3,7 @@ ghost use Rattle.std.specs.Prelude.{◌≡◌};
 
 use refusal::Refusal;
 
+// The number of an open link, to be spent once.
 pub struct Ticket {
     pub(super) link: usize,
 }

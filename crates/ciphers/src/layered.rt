@@ -13,6 +13,7 @@ pub enum Base<K> {
     Two(K, usize, K),
 }
 
+// How often a base is whitened.
 #[derive(Clone, Copy, PartialEq, Eq, Debug)]
 pub enum Coat {
     Bare,
@@ -20,6 +21,7 @@ pub enum Coat {
     TwiceWhitened,
 }
 
+// A base in its coat.
 #[derive(Clone, Copy, PartialEq, Eq, Debug)]
 pub struct Coated<K> {
     pub coat: Coat,

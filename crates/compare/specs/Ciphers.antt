@@ -15,6 +15,7 @@ title Mkv128 = codes "mkv128"
 title Mkv256 = codes "mkv256"
 title Aes = codes "aes"
 
+-- What each cipher means, as its crate defines it.
 abbrev pub meaning : Cipher → Meaning
 meaning Mkv128 = mkv_128
 meaning Mkv256 = mkv_256

@@ -31,6 +31,7 @@ pub struct Keyed {
 }
 
 impl Keyed {
+    // A cipher under `key`.
     pub fn of(heap: Global, cipher: Cipher, key: &[u8]) -> Result<Keyed, Fault>
         ensures cipher { IfOk result (λ keyed. keyed.cipher ≡ cipher) }
         ensures length { IfOk result (λ keyed. keyed.length ≡ length key.now) }

@@ -12,6 +12,7 @@ use refusal::Refusal;
 use std::fmt;
 use std::str::FromStr;
 
+// A cipher that the data files name.
 #[derive(Clone, Copy, PartialEq, Eq, Debug)]
 pub enum Cipher {
     Mkv128,
@@ -47,6 +48,7 @@ impl Cipher {
         of_kit!(self, kit => width_of(&kit))
     }
 
+    // The four calls of its kit.
     pub fn need(self, len: usize) -> Result<usize, Refusal>
         ensures { result ≡ told ((meaning self).need len) }
     {

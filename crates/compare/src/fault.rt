@@ -44,6 +44,7 @@ impl fmt::Display for Value {
     }
 }
 
+// Why a run stops.
 #[derive(Debug, Drop, Error)]
 pub enum Fault {
     // the program's value in hexadecimal digits, where the line has another

@@ -12,6 +12,7 @@ use Rattle.kit.specs.Calls.{expand_checks, cipher_checks}
 abbrev pub deeper : KeyFault → KeyFault
 deeper fault = record { depth = min (fault.depth + 1) 255; length = fault.length }
 
+-- an answer from below, as a layer passes it on
 abbrev pub risen : Result ℕ KeyFault → Result ℕ KeyFault
 risen (Ok n) = Ok n
 risen (Err fault) = Err (deeper fault)

@@ -1,6 +1,6 @@
 // Layers over block ciphers: whitening over a kit, and the cascade of two; each is a kit again.
 // Promises for every kit below which keys a layer takes, how deep a refusal stands, and what it enciphers.
-// Rests on the interface of crate kit, and on the XOR of crate block.
+// Rests on the interface of crate kit, the XOR of crate block, and the faults of crate refusal.
 #![tactic(auto)]
 
 ghost use Rattle.std.specs.Prelude.{◌≡◌, ℕ, Result};

@@ -51,10 +51,12 @@ end_checks m s l out =
     (ragged l.mode l.direction (instrument m s l) (view l), Ragged) ∷ (bare l.mode l.direction (instrument m s l) (view l), Padding) ∷
     (nat_lt out (length (link_closing m s l)), Output) ∷ []
 
+-- an end that is accepted gives n bytes
 pub record Closed (m : Meaning) (s : List ℕ) (l : Link) (out : List ℕ) (n : ℕ) (out' : List ℕ) : Type 0 where
   pub count : n ≡ length (link_closing m s l)
   pub output : out' ≡ overwritten out (link_closing m s l)
 
+-- a refusal leaves out as it was
 abbrev pub Ends : Meaning → List ℕ → Link → List ℕ → Result ℕ Refusal → List ℕ → Type 0
 Ends m s l out r out' = Answers (end_checks m s l (length out)) r (λ n. Closed m s l out n out') (out' ≡ out)
 
@@ -78,6 +80,7 @@ pub record Fed (m : Meaning) (s : List ℕ) (l : Link) (piece out : List ℕ) (r
   pub fits : Fits l'
   pub kept : Kept l l'
 
+-- the checks of a piece, in order
 abbrev pub put_checks : Meaning → List ℕ → Link → List ℕ → ℕ → List (Bool × Refusal)
 put_checks m s l piece out = (nat_lt 4096 (length piece), Piece) ∷ (nat_lt out (length (link_given m s l piece)), Output) ∷ []
 

@@ -33,6 +33,7 @@ pub record Kept (l l' : Link) : Type 0 where
   pub key : l'.key ≡ l.key
   pub width : l'.width ≡ l.width
 
+-- the record l with another chain block, other bytes held and another count
 abbrev pub link : Link → List ℕ → List ℕ → ℕ → Link
 link l chain held count =
     record { «open» = l.open; mode = l.mode; direction = l.direction; key = l.key; width = l.width; chain = chain; held = held; count = count }

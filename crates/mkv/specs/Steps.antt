@@ -11,6 +11,7 @@ use Rattle.mkv.specs.Tables.{s, s_inverse}
 unfoldable pub sub_cells : List ℕ → List ℕ
 sub_cells b = sub s b
 
+-- SubCells undone: each byte by the inverse of s
 unfoldable pub sub_cells_back : List ℕ → List ℕ
 sub_cells_back b = sub s_inverse b
 

@@ -34,6 +34,7 @@ run f (x ∷ xs) b = run f xs (f x b)
 abbrev pub forth : List Step
 forth = XorA ∷ SubCells ∷ MixWords ∷ XorB ∷ SubCells ∷ XWords ∷ []
 
+-- the steps of a round undone, in order
 abbrev pub back : List Step
 back = XWords ∷ SubCells ∷ XorB ∷ MixWords ∷ SubCells ∷ XorA ∷ []
 
@@ -50,6 +51,7 @@ step_checks key b = (not (b == 16 || b == 32), Block) ∷ (not (key == 2 * b), B
 abbrev pub stepped_at : List ℕ → List (List ℕ) → List (List ℕ) → Step → List ℕ → List ℕ → List ℕ
 stepped_at table narrow wide x key b = cond (length b == 16) (stepped table 4 narrow x key b) (stepped table 8 wide x key b)
 
+-- the same with the table and the matrices of the round, and of the round undone
 abbrev pub at_width : Step → List ℕ → List ℕ → List ℕ
 at_width x key b = stepped_at s m4 m8 x key b
 

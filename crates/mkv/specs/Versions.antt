@@ -21,6 +21,7 @@ abbrev pub under : Option ℕ → (ℕ → List ℕ) → List ℕ → List ℕ
 under (Some r) f other = f r
 under None f other = other
 
+-- what a key of len bytes needs
 abbrev pub need : ℕ → ℕ → Result ℕ KeyFault
 need t len = cells t len (rounds t len)
 
@@ -34,9 +35,11 @@ enc t m len s b = under (rounds t len) (λ r. encipher t m r s b) b
 abbrev pub dec : ℕ → List (List ℕ) → ℕ → List ℕ → List ℕ → List ℕ
 dec t n len s b = under (rounds t len) (λ r. decipher t n r s b) b
 
+-- the kit with words of t bytes
 abbrev pub mkv : ℕ → List (List ℕ) → List (List ℕ) → Meaning
 mkv t m n = record { width = 4 * t; need = need t; schedule = schedule t m; enc = enc t m; dec = dec t n }
 
+-- the kits of blocks of 16 and of 32 bytes
 abbrev pub mkv_128 : Meaning
 mkv_128 = mkv 4 m4 m4_inverse
 

@@ -1,6 +1,6 @@
 // The block cipher MKV in its six versions: two kits, of 16 and of 32 bytes, over one text.
 // Promises each kit the standard's cipher as its meaning, refusals included, and every step of a round by itself.
-// Rests on the interface (kit), the round (round) and the key schedule (schedule).
+// Rests on the interface of crate kit, the products of crate field, and the XOR and the substitution of crate block.
 #![tactic(auto)]
 
 ghost use Rattle.std.specs.Prelude.{◌≡◌, ◌*◌, length};

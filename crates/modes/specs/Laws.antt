@@ -1,6 +1,6 @@
 -- What holds of links over every cipher, in the words of Modes. Assumes nothing.
 -- Of std, `concat`: pieces or blocks joined.
-use Rattle.std.specs.Prelude.{◌≡◌, ℕ, ◌<◌, false, List, [], ◌∷◌, ◌++◌, length}
+use Rattle.std.specs.Prelude.{◌≡◌, ℕ, ◌<◌, false, List, ◌++◌, length}
 use Rattle.std.specs.List.{concat}
 use Rattle.block.specs.Bytes.{Bytes, Block}
 use Rattle.modes.specs.Modes.{Cipher, Ciphertext, Plaintext}
@@ -49,6 +49,7 @@ SameCiphertext = (m : Mode) (k k' : Cipher) (start text bytes : List ℕ) → En
 
 -- ---- sending: from open to end a link gives the mode's ciphertext of what it took
 
+-- all that a sending link gives for a text, from open to end
 abbrev pub sent : Mode → Cipher → List ℕ → List ℕ → List ℕ
 sent m k start text = given m Send k (opened start) text ++ closing m Send k (after m Send k (opened start) text)
 

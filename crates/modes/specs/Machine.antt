@@ -15,6 +15,7 @@ pub record State : Type 0 where
   pub chain : List ℕ
   pub held : List ℕ
 
+-- the state with the chain block v, and the bytes h held
 abbrev pub state : List ℕ → List ℕ → State
 state v h = record { chain = v; held = h }
 
@@ -62,6 +63,7 @@ rolled Ofb u h = u
 abbrev pub stream_state : Mode → Cipher → List ℕ → List ℕ → State
 stream_state m k u h = cond (full k h) (state (rolled m u h) []) (state u h)
 
+-- the byte that a stream gives for one more, and the state after it
 abbrev pub stream_byte : Direction → Cipher → State → ℕ → ℕ
 stream_byte d k s x = mixed d (pad k s.chain s.held) s.held x
 

@@ -10,6 +10,7 @@ pub record Unpadded (block text : List ℕ) : Type 0 where
   pub zeros : ℕ
   pub is : block ≡ text ++ (0x80 ∷ replicate zeros 0)
 
+-- no byte other than 00
 abbrev pub all_zero : List ℕ → Bool
 all_zero [] = true
 all_zero (x ∷ xs) = x == 0 && all_zero xs

@@ -10,6 +10,7 @@ use Rattle.patrol.specs.declared.set.Transceiver.{Transceiver}
 use Rattle.patrol.specs.declared.calls.SizeError.{SizeError}
 use Rattle.patrol.specs.declared.calls.SizeError.TheVariants.{Refused, Memory}
 
+-- how its shelf stands, and the records in its cell memory
 abbrev pub stands : Transceiver → Standing
 stands t = standing t.shelf.book
 

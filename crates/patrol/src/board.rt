@@ -6,6 +6,7 @@ use std::alloc::{AllocError, Global};
 use std::collections::BTreeMap;
 use std::fmt;
 
+// What is told of a set: its nearest beacons and its lists.
 #[derive(Drop)]
 pub struct Board {
     pub nearest: Vec<SignalRecord>,

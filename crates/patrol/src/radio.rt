@@ -29,6 +29,7 @@ macro_rules! of_bank {
     };
 }
 
+// A bank, the cells that it is lent, and its scratch.
 #[derive(Drop)]
 pub struct Radio {
     links: Links,

@@ -5,6 +5,7 @@ use super::radio::Radio;
 use shelf::Shelf;
 use signal::SignalRecord;
 
+// One set of a search; its cell memory has as many records as its shelf has cells.
 #[derive(Drop)]
 pub struct Transceiver {
     pub(super) shelf: Shelf<SignalRecord>,

@@ -29,6 +29,7 @@ abbrev pub ModeNumbered : List ℕ → Result ℕ Fault → Type 0
 ModeNumbered text (Ok n) = ModeNumber text n
 ModeNumbered text (Err e) = NoMode text e
 
+-- the text of a beacon's identity, and that of a strength
 abbrev pub IsBeacon : List ℕ → Type 0
 IsBeacon text = Figure 16 text × (length text ≡ 8)
 
@@ -48,6 +49,7 @@ pub data Blames (beacon distance strength : List ℕ) : Fault → Type 0 where
   no_distance : IsBeacon beacon → (DistanceText distance → ⊥) → Blames beacon distance strength Distance
   no_strength : IsBeacon beacon → DistanceText distance → (IsStrength strength → ⊥) → Blames beacon distance strength Strength
 
+-- what a record is read as: the one that the texts say, or the fault to blame
 abbrev pub Recorded : ℕ → List ℕ → List ℕ → List ℕ → Result SignalRecord Fault → Type 0
 Recorded second beacon distance strength (Ok r) = Says second beacon distance strength r
 Recorded second beacon distance strength (Err e) = Blames beacon distance strength e

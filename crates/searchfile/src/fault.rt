@@ -2,6 +2,7 @@
 use std::alloc::AllocError;
 use thiserror::Error;
 
+// What was expected where a line is wrong.
 #[derive(Clone, Copy, PartialEq, Eq, Debug, Error)]
 pub enum Fault {
     #[error("expected `search`, `radio`, `leader`, `patroller`, or a time, a set and what it does")]

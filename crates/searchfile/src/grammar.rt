@@ -10,6 +10,7 @@ use std::fmt;
 // What may stand behind a word for the eye.
 const MARKS: [char; 3] = [',', ';', ':'];
 
+// What a set is in its search.
 #[derive(Clone, Copy, PartialEq, Eq, Debug)]
 pub enum Role {
     Leader,
@@ -57,6 +58,7 @@ pub enum Action {
     },
 }
 
+// What a line says.
 #[derive(Drop)]
 pub enum Statement<'a> {
     Blank,

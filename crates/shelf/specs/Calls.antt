@@ -19,11 +19,13 @@ pub record Empty (n : ℕ) (s : Standing) : Type 0 where
   pub sized : s.size ≡ n
   pub none : (c : ℕ) → c < 16 → s.chain c ≡ []
 
+-- what a size answers and leaves
 abbrev pub Sizing : Standing → ℕ → Result (Unit {0}) Refusal → Standing → Type 0
 Sizing s n r s' = Answers (size_checks s.size n) r (λ _. Empty n s') (s' ≡ s)
 
 -- ---- what every call on a chain checks first
 
+-- is there such a chain
 abbrev pub chain_checks : (c : ℕ) → List (Bool × Refusal)
 chain_checks c = (nat_lt 15 c, Chain) ∷ []
 
@@ -61,6 +63,7 @@ pub record Grown {T : Type 0} (s : Standing) (cells : List T) (c : ℕ) (items :
   pub untouched : (k : ℕ) → Without k taken → pick cells' k ≡ pick cells k
   pub long : length cells' ≡ length cells
 
+-- what an append answers and leaves; a refused one leaves shelf and memory as they were
 abbrev pub Append : {T : Type 0} → Standing → List T → ℕ → List T → Result (Unit {0}) Refusal → Standing → List T → Type 0
 Append s cells c items r s' cells' =
     Answers (append_checks s.size (free s) (length cells) c (length items)) r (λ _. Grown s cells c items s' cells') ((s' ≡ s) × (cells' ≡ cells))
@@ -71,6 +74,7 @@ Append s cells c items r s' cells' =
 abbrev pub read_checks : (size long shown c p : ℕ) → List (Bool × Refusal)
 read_checks size long shown c p = access_checks size shown c ++ ((nat_le long p, Position) ∷ [])
 
+-- what a read answers: the item at position p, counted from 0
 abbrev pub Read : {T : Type 0} → Standing → List T → ℕ → ℕ → Result T Refusal → Type 0
 Read s cells c p r = Answers (read_checks s.size (length (s.chain c)) (length cells) c p) r (λ x. slice_get (list s cells c) p ≡ Some x) (Unit {0})
 
@@ -94,5 +98,6 @@ pub record Emptied (s : Standing) (c : ℕ) (s' : Standing) : Type 0 where
   pub others : (d : ℕ) → d < 16 → (d ≢ c) → s'.chain d ≡ s.chain d
   pub sized : s'.size ≡ s.size
 
+-- what a drop answers and leaves
 abbrev pub Drop : Standing → ℕ → Result (Unit {0}) Refusal → Standing → Type 0
 Drop s c r s' = Answers (chain_checks c) r (λ _. Emptied s c s') (s' ≡ s)

@@ -32,6 +32,7 @@ room n past = n - total (λ c. length (left past c))
 
 -- ---- the law: every answer of a past is told by the calls before it
 
+-- each follows from the other
 abbrev pub ExactlyWhen : Type 0 → Type 0 → Type 0
 ExactlyWhen P Q = (P → Q) × (Q → P)
 
@@ -48,6 +49,7 @@ pub record ReadDue {T : Type 0} (n : ℕ) (past : List (Call T)) (shown c p : �
   pub gives : (x : T) → r ≡ Ok x → slice_get (left past c) p ≡ Some x
   pub ended : c < 16 → shown ≡ n → ExactlyWhen (r ≡ Err Position) (length (left past c) ≤ p)
 
+-- each answer of a past is the one that is due after the calls before it
 abbrev pub Lawful : {T : Type 0} → ℕ → List (Call T) → Type 0
 Lawful n [] = Unit {0}
 Lawful n (append shown c items r ∷ past) = AppendDue n past shown c items r × Lawful n past
@@ -82,6 +84,7 @@ pub record LawAfter {T : Type 0} (n : ℕ) (past : List (Call T)) (s : Standing)
   pub counts : (c : ℕ) → c < 16 → length (s.chain c) ≡ length (left past c)
   pub lists : (c : ℕ) → c < 16 → list s own c ≡ left past c
 
+-- the law of shelves with items of one kind
 abbrev pub Law : Type 0 → Type 0
 Law T = (n : ℕ) (past : List (Call T)) (s : Standing) (own : List T) → Ran n past s own → LawAfter n past s own
 

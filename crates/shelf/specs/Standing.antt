@@ -5,6 +5,7 @@ use Rattle.std.specs.List.{range_with_len}
 use Rattle.shelf.specs.Links.{firsts, lens, cell_at}
 use Rattle.shelf.specs.declared.book.ChainBook.{ChainBook}
 
+-- how a shelf stands
 pub record Standing : Type 0 where
   pub size : ℕ
   -- the cells of a chain, 0 to 15, in the order of their items

@@ -16,9 +16,11 @@ whole bs = take (length bs - 2) bs
 abbrev pub tenth : List ℕ → List ℕ
 tenth bs = take 1 (drop (length bs - 1) bs)
 
+-- the decimetres that it says
 abbrev pub decimetres : List ℕ → ℕ
 decimetres bs = digits_value 10 (whole bs) * 10 + digits_value 10 (tenth bs)
 
+-- a text that is a distance, which 16 bits hold
 pub record DistanceText (bs : List ℕ) : Type 0 where
   pub long : 3 ≤ length bs
   pub point : slice_index_or bs (length bs - 2) 0 ≡ 46
@@ -28,6 +30,7 @@ pub record DistanceText (bs : List ℕ) : Type 0 where
 
 -- ---- a time: hours, and two digits each for minutes and seconds, with colons between
 
+-- the text before the last six bytes, and the two pairs of digits
 abbrev pub hours : List ℕ → List ℕ
 hours bs = take (length bs - 6) bs
 
@@ -37,9 +40,11 @@ minutes bs = take 2 (drop (length bs - 5) bs)
 abbrev pub last_two : List ℕ → List ℕ
 last_two bs = take 2 (drop (length bs - 2) bs)
 
+-- the seconds that it says
 abbrev pub seconds : List ℕ → ℕ
 seconds bs = digits_value 10 (hours bs) * 3600 + digits_value 10 (minutes bs) * 60 + digits_value 10 (last_two bs)
 
+-- a text that is a time, whose seconds 32 bits hold
 pub record TimeText (bs : List ℕ) : Type 0 where
   pub long : 7 ≤ length bs
   pub first_colon : slice_index_or bs (length bs - 6) 0 ≡ 58

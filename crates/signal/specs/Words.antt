@@ -26,6 +26,7 @@ two n = decimal (n / 10) ++ decimal (n % 10)
 abbrev pub clocked : ℕ → List ℕ
 clocked s = decimal (s / 3600) ++ (codes ":" ++ (two (s / 60 % 60) ++ (codes ":" ++ two (s % 60))))
 
+-- a whole record
 abbrev pub recorded : SignalRecord → List ℕ
 recorded r =
     hex r.beacon ++ (codes " at " ++ (metred r.distance ++ (codes " m, strength " ++ (decimal r.strength ++ (codes ", heard " ++ clocked r.second)))))
