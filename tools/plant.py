@@ -54,7 +54,7 @@ def bugs(path):
 
 
 # What is told of a name that a file of answers speaks of and the changed function has no more, and of what hangs on that answer.
-UNFIT = re.compile(r"has no field|can be named|not admitted|was rejected|not checked")
+UNFIT = re.compile(r"has no field|\(nearest: |can be named|is not in scope|not admitted|was rejected|not checked")
 
 
 def first_error(log):
