@@ -55,7 +55,9 @@ def bugs(path):
 
 # What is told of a name that a file of answers speaks of and the changed function has no more, and of what hangs on that answer.
 # A long message has "has no field" on the line after, so that the first one ends with the record.
-UNFIT = re.compile(r"has no (field|`)|can be named|not admitted|was rejected|not checked|: record `[^`]*`( \(nearest.*)?$")
+UNFIT = re.compile(
+    r"has no (field|`)|\(nearest: |can be named|is not in scope|not admitted|was rejected|not checked|: record `[^`]*`( \(nearest.*)?$"
+)
 
 
 def first_error(log):
