@@ -54,3 +54,7 @@ pub record Expands (t : ℕ) (m : List (List ℕ)) (n r : ℕ) (key s : List ℕ
   pub size : length s ≡ 4 * t + r * (8 * t)
   pub first : word (4 * t) 0 s ≡ left 0
   pub next : (i : ℕ) → 1 ≤ i → i ≤ r → (word (4 * t) (2 * i - 1) s ≡ left i) × (word (4 * t) (2 * i) s ≡ right i)
+  -- so these are the round keys and the post key
+  pub round_key_0 : 1 ≤ r → word (8 * t) 0 s ≡ left 0 ++ left 1
+  pub round_key : (i : ℕ) → 1 ≤ i → i < r → word (8 * t) i s ≡ right i ++ left (i + 1)
+  pub post_key : 1 ≤ r → drop (r * (8 * t)) s ≡ right r

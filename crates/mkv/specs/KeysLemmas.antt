@@ -1,11 +1,11 @@
 -- The key schedule: its size and its bytes. Assumes nothing.
 use Rattle.std.specs.Prelude.{◌≡◌, ℕ, zero, suc, ◌+◌, ◌-◌, ◌*◌, ◌<◌, ◌≤◌, List, [], ◌∷◌, ◌++◌, map, length, take, drop, replicate, slice_set}
 use Rattle.std.proofs.Math.Path.{sym}
-use Rattle.std.proofs.Common.{refl, ap, ap₂, ◌∙◌, zero-mul, add-mul, length-append, mul-le-mul_right}
+use Rattle.std.proofs.Common.{refl, ap, ap₂, ◌∙◌, zero-mul, one-mul, add-mul, mul-add, length-append, mul-le-mul_right}
 use native.Mathlib.Omega.{arith}
 use Rattle.std.proofs.Math.Nat.{suc-mul}
-use Rattle.std.proofs.lemmas.List.{length-map, length-take, length-take-le, length-drop, length-set, length-replicate, take_at, drop_at, drop-drop, drop-map, take-map, drop-take, take-take, take-append-le, drop-append-le}
-use lib.Seq.{drop-append-add}
+use Rattle.std.proofs.lemmas.List.{length-map, length-take, length-take-le, length-drop, length-set, length-replicate, take_at, drop_at, drop-drop, drop-map, take-map, drop-take, take-take, take_all, take-append-le, drop-append-le}
+use lib.Seq.{take-add, drop-append-add}
 use Rattle.block.specs.Bytes.{Bytes, Block, xor}
 use Rattle.block.specs.Words.{word}
 use Rattle.block.proofs.Xor.{block_xor}
@@ -175,6 +175,30 @@ module _ (t : ℕ) (m n : List (List ℕ)) (u : Inverse t m n) where
       ∙ ap₂ xor (sym (word_past_two w (2 * suc j + 2) (2 * j + 2) left right (states r (i + 1) l k) hl.size hr.size (omega arith)))
       (ap₂ (stirred t m) e (sym (word_past_two w (2 * suc j) (2 * j) left right (states r (i + 1) l k) hl.size hr.size (omega arith))))
 
+-- two blocks at once
+module _ (t i : ℕ) (s : List ℕ) where
+  twice_at : i * (8 * t) ≡ 2 * i * (4 * t)
+  twice_at =
+      let e : 8 * t ≡ 4 * t + 4 * t = omega arith in
+      let d : i + i ≡ 2 * i = omega arith in
+      ap (λ k. i * k) e ∙ mul-add i (4 * t) (4 * t) ∙ sym (add-mul i i (4 * t)) ∙ ap (λ k. k * (4 * t)) d
+
+  two_blocks : word (8 * t) i s ≡ word (4 * t) (2 * i) s ++ word (4 * t) (2 * i + 1) s
+  unfolding word
+  two_blocks =
+      let w = 4 * t in
+      let e : 8 * t ≡ w + w = omega arith in
+      let past : 2 * i * w + w ≡ (2 * i + 1) * w = omega (arith, add-mul (2 * i) 1 w, one-mul w) in
+      ap₂ (λ a b. take a (drop b s)) e twice_at
+      ∙ take-add w w (drop (2 * i * w) s)
+      ∙ ap (λ l. take w (drop (2 * i * w) s) ++ take w l) (drop-drop w (2 * i * w) s ∙ ap (λ k. drop k s) past)
+
+  last_block : length s ≡ 4 * t + i * (8 * t) → drop (i * (8 * t)) s ≡ word (4 * t) (2 * i) s
+  unfolding word
+  last_block e =
+      let long : length (drop (i * (8 * t)) s) ≡ length s - i * (8 * t) = length-drop (i * (8 * t)) s in
+      sym (take_all (4 * t) (drop (i * (8 * t)) s) (omega arith)) ∙ ap (λ k. take (4 * t) (drop k s)) twice_at
+
 -- the words of Right_0
 module _ (t n : ℕ) (key : List ℕ) (e : length key ≡ n * t) where
   word_given : (i : ℕ) → 4 + i < n → word t i (start_right t key) ≡ word t (4 + i) key
@@ -257,25 +281,51 @@ module _ (t : ℕ) (m n : List (List ℕ)) (u : Inverse t m n) (r : ℕ) (key : 
       ∙ states_right t m n u r 1 j (start_left t key) (start_right t key) (omega arith) (omega arith) left_0 right_0
       ∙ ap₂ (λ k l. xor (word (4 * t) k all_states) (stirred t m l (left_of j))) d f
 
-  pub expands : (k : ℕ) → length key ≡ k * t → Expands t m k r key (schedule t m r key)
-  unfolding schedule
-  expands k e =
-      let w = 4 * t in
+  whole : List ℕ
+  whole = schedule t m r key
+
+  size : length whole ≡ 4 * t + r * (8 * t)
+  unfolding whole
+  size = (block_schedule t m n u r key few low high b).size ∙ omega arith
+
+  first : word (4 * t) 0 whole ≡ left_of 0
+  unfolding whole schedule
+  first =
       let l = start_left t key in
       let later = updates t m r 1 l (start_right t key) in
-      record {
-        left = left_of;
-        right = right_of;
-        begins = left_begins;
-        given = λ i h. ap (word t i) right_begins ∙ word_given t k key e i h;
-        filled = λ i h g. ap (word t i) right_begins ∙ word_filled t k key e i low h g;
-        lefts = left_updated;
-        rights = right_updated;
-        size = (block_schedule t m n u r key few low high b).size ∙ omega arith;
-        first = word_here w l later left_0.size ∙ sym (word_here w l (start_right t key ++ later) left_0.size);
-        next = λ i some within.
-            (word_past w (2 * i - 1) (2 * i - 2) l later left_0.size (omega arith)
+      word_here (4 * t) l later left_0.size ∙ sym (word_here (4 * t) l (start_right t key ++ later) left_0.size)
+
+  next : (i : ℕ) → 1 ≤ i → i ≤ r → (word (4 * t) (2 * i - 1) whole ≡ left_of i) × (word (4 * t) (2 * i) whole ≡ right_of i)
+  unfolding whole schedule
+  next i some within =
+      let w = 4 * t in
+      let l = start_left t key in
+      let later = updates t m r 1 l (start_right t key) in (
+        word_past w (2 * i - 1) (2 * i - 2) l later left_0.size (omega arith)
             ∙ sym (word_past_two w (2 * i) (2 * i - 2) l (start_right t key) later left_0.size right_0.size (omega arith)),
-            word_past w (2 * i) (2 * i - 1) l later left_0.size (omega arith)
-            ∙ sym (word_past_two w (2 * i + 1) (2 * i - 1) l (start_right t key) later left_0.size right_0.size (omega arith)));
-      }
+        word_past w (2 * i) (2 * i - 1) l later left_0.size (omega arith)
+            ∙ sym (word_past_two w (2 * i + 1) (2 * i - 1) l (start_right t key) later left_0.size right_0.size (omega arith)),
+      )
+
+  next_left_at : (i k : ℕ) → i < r → k ≡ 2 * i + 1 → word (4 * t) k whole ≡ left_of (i + 1)
+  next_left_at i k within e =
+      let f : k ≡ 2 * (i + 1) - 1 = omega arith in
+      ap (λ k. word (4 * t) k whole) f ∙ (next (i + 1) (omega arith) (omega arith)).0
+
+  pub expands : (k : ℕ) → length key ≡ k * t → Expands t m k r key (schedule t m r key)
+  unfolding whole
+  expands k e = record {
+    left = left_of;
+    right = right_of;
+    begins = left_begins;
+    given = λ i h. ap (word t i) right_begins ∙ word_given t k key e i h;
+    filled = λ i h g. ap (word t i) right_begins ∙ word_filled t k key e i low h g;
+    lefts = left_updated;
+    rights = right_updated;
+    size = size;
+    first = first;
+    next = next;
+    round_key_0 = λ some. two_blocks t 0 whole ∙ ap₂ ◌++◌ first (next_left_at 0 (2 * 0 + 1) (omega arith) (omega arith));
+    round_key = λ i some within. two_blocks t i whole ∙ ap₂ ◌++◌ (next i some (omega arith)).1 (next_left_at i (2 * i + 1) within (omega arith));
+    post_key = λ some. last_block t r whole size ∙ (next r some (omega arith)).1;
+  }
