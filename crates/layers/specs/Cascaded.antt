@@ -1,7 +1,6 @@
 -- A cascade of two kits: the first p bytes of a key for the first, the rest for the second. Assumes nothing.
 use Rattle.std.specs.Prelude.{◌≡◌, ℕ, ◌+◌, ◌-◌, ◌*◌, ◌<◌, ◌≤◌, cond, ◌⊎◌, List, ◌++◌, length, take, drop, Ok, Err, Result, ◌≢◌, nat_lt}
 use Rattle.refusal.specs.declared.KeyFault.{KeyFault}
-use Rattle.block.specs.Bytes.{Bytes}
 use Rattle.kit.specs.Meaning.{Meaning}
 use Rattle.refusal.specs.Faults.{here}
 use Rattle.layers.specs.Depth.{deeper, risen, both}
@@ -37,7 +36,7 @@ abbrev pub cascaded : ℕ → Meaning → Meaning → Meaning
 cascaded p m n = record { width = m.width; need = need p m n; schedule = schedule p m n; enc = enc p m n; dec = dec p m n }
 
 -- `above` is a cascade of `first` and `second`: a key of it is a key of p bytes of the first, and then one of the second;
--- its encipherment under both is the second's, under the second, of the first's, under the first.
+-- its encipherment under a schedule of both is the second's, under the second part, of the first's, under the first.
 pub record Cascades (p : ℕ) (first second above : Meaning) : Type 0 where
   pub widths : (above.width ≡ first.width) × (above.width ≡ second.width)
   -- a key under p bytes is refused here; then the first is asked for p, and then the second for the rest, one deeper
@@ -49,9 +48,10 @@ pub record Cascades (p : ℕ) (first second above : Meaning) : Type 0 where
   pub exceeds : (len m n : ℕ) → first.need p ≡ Ok m → second.need len ≡ Ok n → (96 < m + n) ⊎ (256 < p + len) → above.need (p + len) ≡ Err (here (p + len))
   -- no key is accepted where none has p bytes for the first
   pub never : (p ≡ 0) ⊎ (256 < p) → (len n : ℕ) → above.need len ≢ Ok n
-  -- schedule, E and D under a key j of the first, followed by a key k of the second
+  -- the schedule of a key j of the first, followed by a key k of the second
   pub schedules : (j k : List ℕ) → length j ≡ p → above.schedule (j ++ k) ≡ first.schedule j ++ second.schedule k
-  pub enciphers : (m : ℕ) (j k x : List ℕ) → length j ≡ p → Bytes j → first.need p ≡ Ok m
-      → above.enc (length (j ++ k)) (above.schedule (j ++ k)) x ≡ second.enc (length k) (second.schedule k) (first.enc (length j) (first.schedule j) x)
-  pub deciphers : (m : ℕ) (j k y : List ℕ) → length j ≡ p → Bytes j → first.need p ≡ Ok m
-      → above.dec (length (j ++ k)) (above.schedule (j ++ k)) y ≡ first.dec (length j) (first.schedule j) (second.dec (length k) (second.schedule k) y)
+  -- E and D under every schedule s of the first, followed by any t, whether a key gives them or not; len is the second's key length
+  pub enciphers : (len c : ℕ) (s t x : List ℕ) → first.need p ≡ Ok c → length s ≡ 16 * c
+      → above.enc (p + len) (s ++ t) x ≡ second.enc len t (first.enc p s x)
+  pub deciphers : (len c : ℕ) (s t y : List ℕ) → first.need p ≡ Ok c → length s ≡ 16 * c
+      → above.dec (p + len) (s ++ t) y ≡ first.dec p s (second.dec len t y)

@@ -207,27 +207,27 @@ schedules : (p : ℕ) (m n : Meaning) (j k : List ℕ) → length j ≡ p → sc
 unfolding schedule
 schedules p m n j k lj = ap₂ (λ u v. m.schedule u ++ n.schedule v) (take_at j k p lj) (drop_at j k p lj)
 
--- a schedule of two parts, under the key of two parts
-module _ (p : ℕ) (m n : Meaning) (sm : Sound m) (c : ℕ) (j k : List ℕ) (lj : length j ≡ p) (hj : Bytes j) (e : m.need p ≡ Ok c) where
-  front_size : length (m.schedule j) ≡ bytes_of (m.need p)
-  front_size = (sm.scheduled c j (ap m.need lj ∙ e) hj).size ∙ sym (bytes_are (m.need p) c e)
+-- a schedule of two parts
+module _ (p : ℕ) (m n : Meaning) (len c : ℕ) (s t : List ℕ) (e : m.need p ≡ Ok c) (ls : length s ≡ 16 * c) where
+  front_size : length s ≡ bytes_of (m.need p)
+  front_size = ls ∙ sym (bytes_are (m.need p) c e)
 
-  pub front_is : take (bytes_of (m.need p)) (schedule p m n (j ++ k)) ≡ m.schedule j
-  front_is = ap (take (bytes_of (m.need p))) (schedules p m n j k lj) ∙ take_at (m.schedule j) (n.schedule k) (bytes_of (m.need p)) front_size
+  front_is : take (bytes_of (m.need p)) (s ++ t) ≡ s
+  front_is = take_at s t (bytes_of (m.need p)) front_size
 
-  pub rest_is : drop (bytes_of (m.need p)) (schedule p m n (j ++ k)) ≡ n.schedule k
-  rest_is = ap (drop (bytes_of (m.need p))) (schedules p m n j k lj) ∙ drop_at (m.schedule j) (n.schedule k) (bytes_of (m.need p)) front_size
+  rest_is : drop (bytes_of (m.need p)) (s ++ t) ≡ t
+  rest_is = drop_at s t (bytes_of (m.need p)) front_size
 
-  pub left_is : length (j ++ k) - p ≡ length k
-  left_is = omega (arith, length-append j k)
+  left_is : p + len - p ≡ len
+  left_is = omega arith
 
-  pub enciphers : (x : List ℕ) → enc p m n (length (j ++ k)) (schedule p m n (j ++ k)) x ≡ n.enc (length k) (n.schedule k) (m.enc (length j) (m.schedule j) x)
+  enciphers : (x : List ℕ) → enc p m n (p + len) (s ++ t) x ≡ n.enc len t (m.enc p s x)
   unfolding enc
-  enciphers x = same₃ n.enc left_is rest_is (ap₂ (λ l t. m.enc l t x) (sym lj) front_is)
+  enciphers x = same₃ n.enc left_is rest_is (ap (λ u. m.enc p u x) front_is)
 
-  pub deciphers : (y : List ℕ) → dec p m n (length (j ++ k)) (schedule p m n (j ++ k)) y ≡ m.dec (length j) (m.schedule j) (n.dec (length k) (n.schedule k) y)
+  deciphers : (y : List ℕ) → dec p m n (p + len) (s ++ t) y ≡ m.dec p s (n.dec len t y)
   unfolding dec
-  deciphers y = same₃ m.dec (sym lj) front_is (ap₂ (λ l t. n.dec l t y) left_is rest_is)
+  deciphers y = same₃ m.dec refl front_is (ap₂ (λ l u. n.dec l u y) left_is rest_is)
 
 pub law : (p : ℕ) (m n : Meaning) → Sound m → n.width ≡ m.width → Cascades p m n (cascaded p m n)
 law p m n sm same = record {
@@ -239,6 +239,6 @@ law p m n sm same = record {
   exceeds = λ len c d e f more. need_split p m n len (Ok c) (Ok d) e f ∙ bounded_above (p + len) (c + d) more;
   never = never p m n sm;
   schedules = schedules p m n;
-  enciphers = λ c j k x lj hj e. enciphers p m n sm c j k lj hj e x;
-  deciphers = λ c j k y lj hj e. deciphers p m n sm c j k lj hj e y;
+  enciphers = λ len c s t x e ls. enciphers p m n len c s t e ls x;
+  deciphers = λ len c s t y e ls. deciphers p m n len c s t e ls y;
 }

@@ -50,7 +50,7 @@ abbrev pub whitened : Meaning → Meaning
 whitened m = record { width = m.width; need = need m; schedule = schedule m; enc = enc m; dec = dec m }
 
 -- `above` whitens `below`: its keys are those below with two blocks a and b after them, and
--- its encipherment of x under such a key is the one below of x + a under the shorter key, and then + b.
+-- its encipherment of x under a schedule that ends with a and b is the one below of x + a under the rest, and then + b.
 pub record Whitens (below above : Meaning) : Type 0 where
   pub width : above.width ≡ below.width
   -- a key too short for a and b is refused here, and any other as the shorter key is below, one deeper
@@ -61,10 +61,11 @@ pub record Whitens (below above : Meaning) : Type 0 where
       → above.need (len + white below) ≡ Ok (n + white_cells below)
   pub exceeds : (len n : ℕ) → below.need len ≡ Ok n → (96 < n + white_cells below) ⊎ (256 < len + white below)
       → above.need (len + white below) ≡ Err (here (len + white below))
-  -- schedule, E and D under the key k, a, b
+  -- the schedule of the key k, a, b
   pub schedules : (k a b : List ℕ) → length a ≡ below.width → length b ≡ below.width
       → above.schedule (k ++ (a ++ b)) ≡ below.schedule k ++ (a ++ b)
-  pub enciphers : (k a b x : List ℕ) → length a ≡ below.width → length b ≡ below.width
-      → above.enc (length (k ++ (a ++ b))) (above.schedule (k ++ (a ++ b))) x ≡ xor (below.enc (length k) (below.schedule k) (xor x a)) b
-  pub deciphers : (k a b y : List ℕ) → length a ≡ below.width → length b ≡ below.width
-      → above.dec (length (k ++ (a ++ b))) (above.schedule (k ++ (a ++ b))) y ≡ xor (below.dec (length k) (below.schedule k) (xor y b)) a
+  -- E and D under every schedule s, a, b, whether a key gives it or not; len is the key length below
+  pub enciphers : (len : ℕ) (s a b x : List ℕ) → length a ≡ below.width → length b ≡ below.width
+      → above.enc (len + white below) (s ++ (a ++ b)) x ≡ xor (below.enc len s (xor x a)) b
+  pub deciphers : (len : ℕ) (s a b y : List ℕ) → length a ≡ below.width → length b ≡ below.width
+      → above.dec (len + white below) (s ++ (a ++ b)) y ≡ xor (below.dec len s (xor y b)) a

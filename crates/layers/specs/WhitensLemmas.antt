@@ -227,27 +227,25 @@ schedules : (m : Meaning) (k a b : List ℕ) → length a ≡ m.width → length
 unfolding schedule
 schedules m k a b la lb = ap₂ (λ u v. m.schedule u ++ v) (inner_is m.width k a b la lb) (white_is m.width k a b la lb)
 
-enciphers : (m : Meaning) (k a b x : List ℕ) → length a ≡ m.width → length b ≡ m.width
-    → enc m (length (k ++ (a ++ b))) (schedule m (k ++ (a ++ b))) x ≡ xor (m.enc (length k) (m.schedule k) (xor x a)) b
+enciphers : (m : Meaning) (len : ℕ) (s a b x : List ℕ) → length a ≡ m.width → length b ≡ m.width
+    → enc m (len + white m) (s ++ (a ++ b)) x ≡ xor (m.enc len s (xor x a)) b
 unfolding enc
-enciphers m k a b x la lb =
+enciphers m len s a b x la lb =
     let w = m.width in
-    let s = m.schedule k in
     let t = s ++ (a ++ b) in
-    ap (λ u. enc m (length (k ++ (a ++ b))) u x) (schedules m k a b la lb)
-    ∙ ap₂ (λ l i. xor (m.enc l i (xor x (block_a w t))) (block_b w t)) (before w k a b la lb) (inner_is w s a b la lb)
-    ∙ ap₂ (λ u v. xor (m.enc (length k) s (xor x u)) v) (a_is w s a b la lb) (b_is w s a b la lb)
+    let d : len + white m - white m ≡ len = omega arith in
+    ap₂ (λ l i. xor (m.enc l i (xor x (block_a w t))) (block_b w t)) d (inner_is w s a b la lb)
+    ∙ ap₂ (λ u v. xor (m.enc len s (xor x u)) v) (a_is w s a b la lb) (b_is w s a b la lb)
 
-deciphers : (m : Meaning) (k a b y : List ℕ) → length a ≡ m.width → length b ≡ m.width
-    → dec m (length (k ++ (a ++ b))) (schedule m (k ++ (a ++ b))) y ≡ xor (m.dec (length k) (m.schedule k) (xor y b)) a
+deciphers : (m : Meaning) (len : ℕ) (s a b y : List ℕ) → length a ≡ m.width → length b ≡ m.width
+    → dec m (len + white m) (s ++ (a ++ b)) y ≡ xor (m.dec len s (xor y b)) a
 unfolding dec
-deciphers m k a b y la lb =
+deciphers m len s a b y la lb =
     let w = m.width in
-    let s = m.schedule k in
     let t = s ++ (a ++ b) in
-    ap (λ u. dec m (length (k ++ (a ++ b))) u y) (schedules m k a b la lb)
-    ∙ ap₂ (λ l i. xor (m.dec l i (xor y (block_b w t))) (block_a w t)) (before w k a b la lb) (inner_is w s a b la lb)
-    ∙ ap₂ (λ u v. xor (m.dec (length k) s (xor y v)) u) (a_is w s a b la lb) (b_is w s a b la lb)
+    let d : len + white m - white m ≡ len = omega arith in
+    ap₂ (λ l i. xor (m.dec l i (xor y (block_b w t))) (block_a w t)) d (inner_is w s a b la lb)
+    ∙ ap₂ (λ u v. xor (m.dec len s (xor y v)) u) (a_is w s a b la lb) (b_is w s a b la lb)
 
 -- a key too short, and one that is long enough
 pub need_short : (m : Meaning) (len : ℕ) → len < white m → need m len ≡ Err (here len)

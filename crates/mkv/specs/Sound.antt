@@ -9,11 +9,11 @@ use Rattle.kit.specs.Calls.{expand_checks}
 use Rattle.kit.proofs.Calls.{cells_due}
 use Rattle.kit.specs.Meaning.{Sized, Sound}
 use Rattle.mkv.specs.Cipher.{encipher, decipher}
-use Rattle.mkv.specs.Keys.{schedule as round_keys}
-use Rattle.mkv.specs.Versions.{rounds, cells, need, under, mkv}
+use Rattle.mkv.specs.Keys.{schedule as round_keys, Expands}
+use Rattle.mkv.specs.Versions.{rounds, cells, need, under, mkv, KeyExpansion}
 use Rattle.mkv.specs.StepsLemmas.{Inverse}
 use Rattle.mkv.specs.CipherLemmas.{Keys, block_encipher, block_decipher, decipher_undoes, encipher_undoes}
-use Rattle.mkv.specs.KeysLemmas.{block_schedule}
+use Rattle.mkv.specs.KeysLemmas.{block_schedule, expands}
 
 -- words of four or of eight bytes
 abbrev pub Words : ℕ → Type 0
@@ -65,6 +65,25 @@ taken t len k e =
       | inr (inl h) ↦ record { r = 7; is = h.1; few = omega arith; low = omega arith; high = omega arith; needs = needs_by t len k 7 h.1 e }
       | inr (inr (inl h)) ↦ record { r = 8; is = h.1; few = omega arith; low = omega arith; high = omega arith; needs = needs_by t len k 8 h.1 e }
       | inr (inr (inr h)) ↦ absurd (none_taken t len k h e)
+    ]
+
+-- a key with rounds has four to eight words
+none_some : (t len r : ℕ) → rounds t len ≡ None → rounds t len ≢ Some r
+none_some t len r q e =
+    let w : ◌≡◌ {A = Option ℕ} None (Some r) = sym q ∙ e in
+    let z : ◌≡◌ {A = ℕ} 0 1 = cc in
+    omega arith
+
+rounds_are : (t len r k : ℕ) → rounds t len ≡ Some k → rounds t len ≡ Some r → r ≡ k
+rounds_are t len r k q e = let w : ◌≡◌ {A = Option ℕ} (Some r) (Some k) = sym e ∙ q in cc
+
+rounds_taken : (t len r : ℕ) → rounds t len ≡ Some r → (r ≤ 8) × (4 * t ≤ len) × (len ≤ 8 * t)
+rounds_taken t len r e =
+    elim (which t len) [
+      | inl h ↦ (omega (arith, rounds_are t len r 6 h.1 e), omega (arith, h.0), omega (arith, h.0))
+      | inr (inl h) ↦ (omega (arith, rounds_are t len r 7 h.1 e), omega (arith, h.0), omega (arith, h.0))
+      | inr (inr (inl h)) ↦ (omega (arith, rounds_are t len r 8 h.1 e), omega (arith, h.0), omega (arith, h.0))
+      | inr (inr (inr h)) ↦ absurd (none_some t len r h e)
     ]
 
 -- the cells hold two blocks a round and the post key
@@ -145,3 +164,9 @@ module _ (t : ℕ) (m n : List (List ℕ)) (w : Words t) (u : Inverse t m n) whe
         enc_is len k.r s ((mkv t m n).dec len s b) k.is ∙ ap (encipher t m k.r s) (dec_is len k.r s b k.is)
         ∙ encipher_undoes t m n u k.r s b (keys_fit len s b h) h.block;
   }
+
+  pub key_expansion : KeyExpansion t m (mkv t m n)
+  key_expansion key k r b e q =
+      let h = rounds_taken t (length key) r q in
+      let is : (mkv t m n).schedule key ≡ round_keys t m r key = ap (λ o. under o (λ r. round_keys t m r key) []) q in
+      subst (Expands t m k r key) (sym is) (expands t m n u r key (omega (arith, h.0)) h.1 h.2 b k e)

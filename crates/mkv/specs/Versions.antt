@@ -1,11 +1,12 @@
 -- MKV as a kit, with words of t bytes, and its two widths. Assumes nothing.
-use Rattle.std.specs.Prelude.{ℕ, ◌+◌, ◌*◌, ◌/◌, cond, List, [], length, Some, None, Ok, Err, Option, Result, ◌==◌}
+use Rattle.std.specs.Prelude.{◌≡◌, ℕ, ◌+◌, ◌*◌, ◌/◌, cond, List, [], length, Some, None, Ok, Err, Option, Result, ◌==◌}
 use Rattle.refusal.specs.declared.KeyFault.{KeyFault}
 use Rattle.refusal.specs.Faults.{here}
+use Rattle.block.specs.Bytes.{Bytes}
 use Rattle.kit.specs.Meaning.{Meaning}
 use Rattle.field.specs.Known.{m4, m4_inverse, m8, m8_inverse}
 use Rattle.mkv.specs.Cipher.{encipher, decipher}
-use Rattle.mkv.specs.Keys.{schedule as round_keys}
+use Rattle.mkv.specs.Keys.{schedule as round_keys, Expands}
 
 -- the rounds of a key: 6 at four words, 7 at six, 8 at eight; no other length is taken
 abbrev pub rounds : ℕ → ℕ → Option ℕ
@@ -45,3 +46,7 @@ mkv_128 = mkv 4 m4 m4_inverse
 
 abbrev pub mkv_256 : Meaning
 mkv_256 = mkv 8 m8 m8_inverse
+
+-- the schedule that the kit gives for a key that is taken, of n words, follows the rule of the updates
+abbrev pub KeyExpansion : ℕ → List (List ℕ) → Meaning → Type 0
+KeyExpansion t m kit = (key : List ℕ) (n r : ℕ) → Bytes key → length key ≡ n * t → rounds t (length key) ≡ Some r → Expands t m n r key (kit.schedule key)

@@ -10,7 +10,8 @@ ghost use Rattle.kit.specs.Calls.{told, unless, expand_refusal, cipher_refusal, 
 ghost use Rattle.mkv.specs.Tables.{Tables};
 ghost use Rattle.mkv.specs.Trace.{stepped, forth, stepped_at, at_width, at_width_back, step_checks, StepsMakeRounds};
 ghost use Rattle.mkv.specs.Meant.{meant};
-ghost use Rattle.mkv.specs.Versions.{rounds as rounds_of, need as needed, mkv_128, mkv_256};
+ghost use Rattle.mkv.specs.Versions.{rounds as rounds_of, need as needed, mkv_128, mkv_256, KeyExpansion};
+ghost use Rattle.field.specs.Known.{m4, m8};
 ghost use Rattle.mkv.specs.Widths.{sound_128, sound_256};
 ghost use Rattle.std.proofs.Common.{rules};
 
@@ -228,10 +229,12 @@ pub fn undo_step(step: Step, key: &[u8], block: &mut [u8]) -> Result<(), Refusal
     BACK.step(step, key, block)
 }
 
-// The two tables lead back from one another, at every byte; and the steps make up the round, and the round undone.
+// The two tables lead back from one another, at every byte; the steps make up the round, and the round undone; and the schedule of
+// every key follows the rule of the updates, at both widths.
 pub fn mkv_stands() -> bool
     ensures tables { Tables }
     ensures rounds { StepsMakeRounds }
+    ensures keys { KeyExpansion 4 m4 mkv_128 × KeyExpansion 8 m8 mkv_256 }
 {
     true
 }
