@@ -1,8 +1,10 @@
 // How a pile is written: `aes`, `whitened mkv128`, or a cascade as `aes 16 mkv128`, with the first cipher's key bytes between.
-ghost use Rattle.std.specs.Prelude.{◌≡◌, ◌≢◌, MatchResult};
+ghost use Rattle.std.specs.Prelude.{◌≡◌, ◌≢◌, ◌++◌, map, Ok, Err, MatchResult, MatchOption};
 ghost use Rattle.ciphers.specs.declared.plain.Narrow.{Narrow};
 ghost use Rattle.ciphers.specs.declared.plain.Wide.{Wide};
-ghost use Rattle.ciphers.specs.Words.{word, wide_word};
+ghost use Rattle.ciphers.specs.declared.Pile.{Pile};
+ghost use Rattle.ciphers.specs.declared.words.UnknownCipher.{UnknownCipher};
+ghost use Rattle.ciphers.specs.Words.{word, wide_word, NameBase, NoBase, coat_words, Whole, Name};
 
 use super::{Base, Coat, Coated, Narrow, Pile, Wide};
 use std::fmt;
@@ -41,7 +43,9 @@ impl FromStr for Wide {
 
 impl<K: FromStr<Err = UnknownCipher> + Copy> Base<K> {
     // The base that words name; a cascade's two ciphers have blocks of one size.
-    fn named(words: &[&str]) -> Option<Base<K>> {
+    fn named(words: &[&str]) -> Option<Base<K>>
+        ensures { MatchOption result (NoBase (λ text. (e : UnknownCipher) × K.FromStr.from_str_gives text (Err e)) (map (λ w. w.now) words.now)) (λ base. NameBase (λ text cipher. K.FromStr.from_str_gives text (Ok cipher)) (map (λ w. w.now) words.now) base) }
+    {
         match words {
             [one] => Some(Base::One(one.parse().ok()?)),
             [first, split, second] => Some(Base::Two(
@@ -54,17 +58,31 @@ impl<K: FromStr<Err = UnknownCipher> + Copy> Base<K> {
     }
 }
 
+// The coat that words begin with, and the words after it.
+fn coat<'a, 'b>(words: &'a [&'b str]) -> (Coat, &'a [&'b str])
+    ensures words { map (λ w. w.now) words.now ≡ coat_words result.0 ++ map (λ w. w.now) result.1.now }
+    ensures whole { Whole result.0 (map (λ w. w.now) result.1.now) }
+{
+    match words {
+        ["whitened", "whitened", rest @ ..] => (Coat::TwiceWhitened, rest),
+        ["whitened", rest @ ..] => (Coat::Whitened, rest),
+        rest => (Coat::Bare, rest),
+    }
+}
+
 impl Pile {
     // The pile that words name: words and not a text, since the grammar of the line has cut them.
-    pub fn named(words: &[&str]) -> Option<Pile> {
-        let (coat, base) = match words {
-            ["whitened", "whitened", rest @ ..] => (Coat::TwiceWhitened, rest),
-            ["whitened", rest @ ..] => (Coat::Whitened, rest),
-            rest => (Coat::Bare, rest),
-        };
-        Base::named(base)
-            .map(|base| Pile::Narrow(Coated { coat, base }))
-            .or_else(|| Base::named(base).map(|base| Pile::Wide(Coated { coat, base })))
+    pub fn named(words: &[&str]) -> Option<Pile>
+        ensures { MatchOption result ((pile : Pile) → Name (map (λ w. w.now) words.now) pile → ⊥) (λ pile. Name (map (λ w. w.now) words.now) pile) }
+    {
+        let (coat, words) = coat(words);
+        match Base::named(words) {
+            Some(base) => Some(Pile::Narrow(Coated { coat, base })),
+            None => Some(Pile::Wide(Coated {
+                coat,
+                base: Base::named(words)?,
+            })),
+        }
     }
 }
 

@@ -1,9 +1,10 @@
 // The comparisons: a value with the one that is due, a block enciphered, an answer deciphered.
 // Promises that what passes is equal, and what a passed answer says of the cipher's definition.
 // Rests on the ciphers (cipher).
-ghost use Rattle.std.specs.Prelude.{◌≡◌, ◌*◌, take, drop, length, IfOk, IfErr, OnOk};
+ghost use Rattle.std.specs.Prelude.{◌≡◌, ◌*◌, ◌+◌, ◌≤◌, ◌↔◌, ◌<◌, None, take, drop, length, codes, IfOk, IfErr, OnOk, IsOk, MatchResult};
+ghost use Rattle.kit.specs.Calls.{cipher_refusal};
 ghost use Rattle.compare.specs.Ciphers.{meaning, ciphered};
-ghost use Rattle.compare.specs.Faults.{Tells, Explains};
+ghost use Rattle.compare.specs.Faults.{Tells, Explains, Unkeyed, Expects};
 ghost use Rattle.compare.specs.declared.fault.Value.TheVariants.{Answer};
 
 use crate::cipher::Cipher;
@@ -12,7 +13,7 @@ use std::alloc::Global;
 
 // Passes where the program's value is the one that the data have.
 pub fn hold(heap: Global, value: Value, found: &[u8], due: &[u8]) -> Result<(), Fault>
-    ensures passes { OnOk result (found.now ≡ due.now) }
+    ensures passes { IsOk result ↔ (found.now ≡ due.now) }
     ensures fault { IfErr result (λ fault. Tells value found.now due.now fault) }
 {
     if found == due {
@@ -33,13 +34,17 @@ pub struct Keyed {
 impl Keyed {
     // A cipher under `key`.
     pub fn of(heap: Global, cipher: Cipher, key: &[u8]) -> Result<Keyed, Fault>
+        ensures accepted { OnOk result (IsOk ((meaning cipher).need (length key.now))) }
+        ensures fault { IfErr result (λ fault. Unkeyed ((meaning cipher).need (length key.now)) fault) }
         ensures cipher { IfOk result (λ keyed. keyed.cipher ≡ cipher) }
         ensures length { IfOk result (λ keyed. keyed.length ≡ length key.now) }
         ensures schedule { IfOk result (λ keyed. keyed.schedule.items ≡ (meaning cipher).schedule key.now) }
     {
-        let cells = cipher.need(key.len())?;
-        let mut schedule = vec![in heap; 0; 16 * cells]?;
-        cipher.expand(key, schedule.as_mut_slice())?;
+        let cells = cipher.need(key.len()).map_err(Fault::Refused)?;
+        let mut schedule = vec![in heap; 0; 16 * cells].map_err(Fault::Memory)?;
+        cipher
+            .expand(key, schedule.as_mut_slice())
+            .map_err(Fault::Refused)?;
         Ok(Keyed {
             cipher,
             length: key.len(),
@@ -49,8 +54,9 @@ impl Keyed {
 
     // Compares what the cipher makes of `given`, one way or the other, with what is due.
     pub fn answer(&self, heap: Global, way: Way, given: &[u8], due: &[u8]) -> Result<(), Fault>
+        ensures accepted { OnOk result (cipher_refusal (meaning self.now.cipher) self.now.length self.now.schedule.items given.now ≡ None) }
         ensures passes { OnOk result (ciphered way (meaning self.now.cipher) self.now.length self.now.schedule.items given.now ≡ due.now) }
-        ensures fault { IfErr result (λ fault. Explains (Answer way) (ciphered way (meaning self.now.cipher) self.now.length self.now.schedule.items given.now) due.now fault) }
+        ensures fault { IfErr result (λ fault. Explains (Answer way) (cipher_refusal (meaning self.now.cipher) self.now.length self.now.schedule.items given.now) (ciphered way (meaning self.now.cipher) self.now.length self.now.schedule.items given.now) due.now fault) }
     {
         let mut block = Vec::from_slice(heap, given).map_err(Fault::Memory)?;
         let schedule = self.schedule.as_slice();
@@ -70,7 +76,9 @@ impl Keyed {
 
 // Part `index` of a schedule that is cut into parts of `size` bytes.
 pub fn part(schedule: &[u8], size: usize, index: usize) -> Result<&[u8], Fault>
-    ensures { IfOk result (λ key. key.now ≡ take size (drop (size * index) schedule.now)) }
+    ensures within { IsOk result ↔ (size * index + size ≤ length schedule.now) }
+    ensures part { IfOk result (λ key. key.now ≡ take size (drop (size * index) schedule.now)) }
+    ensures fault { IfErr result (λ fault. Expects (codes "a round of this schedule") fault) }
 {
     size.checked_mul(index)
         .and_then(|start| schedule.get(start..))
