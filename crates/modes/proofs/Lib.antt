@@ -7,3 +7,4 @@ pub mod Sent
 pub mod Alike
 pub mod Received
 pub mod Counts
+pub mod Holds

@@ -4,7 +4,7 @@ use Rattle.std.specs.Prelude.{◌≡◌, ℕ, ◌<◌, false, List, ◌++◌, le
 use Rattle.std.specs.List.{concat}
 use Rattle.block.specs.Bytes.{Bytes, Block}
 use Rattle.modes.specs.Modes.{Cipher, Ciphertext, Plaintext}
-use Rattle.modes.specs.Machine.{State, opened, after, given, after_pieces, given_pieces, closing, ragged, bare, due_count, end_count, limit}
+use Rattle.modes.specs.Machine.{State, opened, after, given, after_pieces, given_pieces, closing, ragged, bare, due_count, held_count, uneven, end_count, limit}
 use Rattle.modes.specs.declared.Mode.{Mode}
 use Rattle.modes.specs.declared.Direction.{Direction}
 use Rattle.modes.specs.declared.Direction.TheVariants.{Send, Receive}
@@ -98,3 +98,13 @@ Counts = (m : Mode) (d : Direction) (k : Cipher) (s : State) (piece : List ℕ) 
 -- and an end gives so many
 abbrev pub EndsCount : Type 0
 EndsCount = (m : Mode) (d : Direction) (k : Cipher) (s : State) → Enciphers k → Fit m d k s → length (closing m d k s) ≡ end_count m d k s
+
+-- after a piece a link holds so many
+abbrev pub HoldsCount : Type 0
+HoldsCount = (m : Mode) (d : Direction) (k : Cipher) (s : State) (piece : List ℕ) → 0 < k.width → length s.held < limit m d k.width
+    → length (after m d k s piece).held ≡ held_count m d k.width (length s.held) (length piece)
+
+-- an end is ragged by the number of bytes taken since the open, and by nothing else
+abbrev pub RaggedByCount : Type 0
+RaggedByCount = (m : Mode) (d : Direction) (k : Cipher) (start bytes : List ℕ) → 0 < k.width
+    → ragged m d k (after m d k (opened start) bytes) ≡ uneven m d k.width (length bytes)

@@ -3,7 +3,7 @@
 // Rests on the bytes and the XOR of crate block, and on the refusals of crate refusal.
 #![tactic(auto)]
 
-ghost use Rattle.modes.specs.Laws.{PiecesJoin, SendsCiphertext, OneCiphertext, SameCiphertext, ReceivingInverts, ReceivesPlaintext, ReceivesCiphertext, Counts, EndsCount};
+ghost use Rattle.modes.specs.Laws.{PiecesJoin, SendsCiphertext, OneCiphertext, SameCiphertext, ReceivingInverts, ReceivesPlaintext, ReceivesCiphertext, Counts, EndsCount, HoldsCount, RaggedByCount};
 
 pub mod join;
 mod numbers;
@@ -38,10 +38,13 @@ pub fn receiving_inverts_sending() -> bool
     true
 }
 
-// How many bytes each piece and an end give, in every mode and direction; a piece leaves a state that a link can have.
+// How many bytes each piece and an end give, and how many are held, in every mode and direction; a piece leaves a state that a
+// link can have. An end is ragged by the number of bytes taken.
 pub fn counts_stand() -> bool
     ensures pieces { Counts }
     ensures ends { EndsCount }
+    ensures holds { HoldsCount }
+    ensures ragged { RaggedByCount }
 {
     true
 }
