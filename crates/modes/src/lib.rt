@@ -3,7 +3,7 @@
 // Rests on the bytes and the XOR of crate block, and on the refusals of crate refusal.
 #![tactic(auto)]
 
-ghost use Rattle.modes.specs.Laws.{PiecesJoin, SendsCiphertext, OneCiphertext, SameCiphertext, ReceivingInverts, ReceivesPlaintext, ReceivesCiphertext, Counts, EndsCount, HoldsCount, RaggedByCount};
+ghost use Rattle.modes.specs.Laws.{PiecesJoin, SendsCiphertext, OneCiphertext, SameCiphertext, ReceivingInverts, ReceivesPlaintext, ReceivesCiphertext, ReceivesBytes, Counts, EndsCount, HoldsCount, RaggedByCount};
 
 pub mod join;
 mod numbers;
@@ -25,7 +25,8 @@ pub enum Direction {
 }
 
 // From open to end a sending link gives its mode's ciphertext; a receiving link that takes it, in any pieces,
-// ends without a refusal and has given the text.
+// ends without a refusal and has given the text. Of any bytes it gives the text that the mode leads them back to, or there is
+// none and its end is refused.
 pub fn receiving_inverts_sending() -> bool
     ensures pieces { PiecesJoin }
     ensures sends { SendsCiphertext }
@@ -34,6 +35,7 @@ pub fn receiving_inverts_sending() -> bool
     ensures inverts { ReceivingInverts }
     ensures hears { ReceivesPlaintext }
     ensures receives { ReceivesCiphertext }
+    ensures judges { ReceivesBytes }
 {
     true
 }
