@@ -6,7 +6,7 @@ use Rattle.block.specs.Bytes.{Bytes, Block}
 use Rattle.block.proofs.Parts.{bytes_append}
 use Rattle.modes.specs.Padding.{padding, text_end, TextEnd}
 use Rattle.modes.specs.Modes.{Cipher, plain_block, Streams, cfb, ofb}
-use Rattle.modes.specs.Machine.{State, state, push, pad, mixed, cipher_byte, rolled, stream_state, fed, due, given, last_text, due_count, place, before, limit}
+use Rattle.modes.specs.Machine.{State, state, push, pad, mixed, cipher_byte, rolled, stream_state, fed, due, after, given, last_text, due_count, place, before, limit}
 use Rattle.modes.specs.Laws.{Enciphers, Deciphers, Fit, Counts, EndsCount}
 use Rattle.modes.specs.declared.Mode.{Mode}
 use Rattle.modes.specs.declared.Mode.TheVariants.{Cbc, Cfb, Ofb}
@@ -130,9 +130,9 @@ module _ (k : Cipher) (e : Enciphers k) where
         count = λ i. ap₂ (λ g q. length g + q) (stream_due st d k (state v h) x) (stream_count st d k.width _ i) ∙ omega arith ∙ sym (stream_count st d k.width (length h) (suc i));
       }
 
-  step : (m : Mode) (d : Direction) → Deciphers k → (s : State) (x : ℕ) → Fit m d k s → x < 256 → Step m d k s x
+  step : (m : Mode) (d : Direction) → (m ≡ Cbc → d ≡ Receive → Deciphers k) → (s : State) (x : ℕ) → Fit m d k s → x < 256 → Step m d k s x
   step Cbc Send de s x f bx = send_step s.chain s.held x f.chain f.held f.room bx
-  step Cbc Receive de s x f bx = receive_step de s.chain s.held x f.chain f.held f.room bx
+  step Cbc Receive de s x f bx = receive_step (de refl refl) s.chain s.held x f.chain f.held f.room bx
   step Cfb d de s x f bx = stream_step cfb d s.chain s.held x f.chain f.held f.room bx
   step Ofb d de s x f bx = stream_step ofb d s.chain s.held x f.chain f.held f.room bx
 
@@ -143,12 +143,17 @@ count_none Cbc Receive w h some l = let z : h + 0 - 1 < w = omega arith in rw (d
 count_none Cfb d w h some l = refl
 count_none Ofb d w h some l = refl
 
-pub counts : Counts
-counts m d k s [] e de f b = (f, count_none m d k.width (length s.held) e.some f.room)
-counts m d k s (x ∷ xs) e de f b =
+pub counted : Counts
+counted m d k s [] e de f b = (f, count_none m d k.width (length s.held) e.some f.room)
+counted m d k s (x ∷ xs) e de f b =
     let t = step k e m d de s x f b.0 in
-    let i = counts m d k (fed m d k s x) xs e de t.fits b.1 in
+    let i = counted m d k (fed m d k s x) xs e de t.fits b.1 in
     (i.0, length-append (due m d k s x) (given m d k (fed m d k s x) xs) ∙ ap (λ n. length (due m d k s x) + n) i.1 ∙ t.count (length xs))
+
+-- the same where D is a function on blocks in any case
+pub counts : (m : Mode) (d : Direction) (k : Cipher) (s : State) (piece : List ℕ) → Enciphers k → Deciphers k → Fit m d k s → Bytes piece
+    → Fit m d k (after m d k s piece) × (length (given m d k s piece) ≡ due_count m d k.width (length s.held) (length piece))
+counts m d k s piece e de f b = counted m d k s piece e (λ c r. de) f b
 
 length_before : (o : Option ℕ) (b : List ℕ) → TextEnd o b → length (before o b) ≡ place o
 length_before None b t = refl

@@ -6,4 +6,6 @@ pub mod Cuts
 pub mod Sent
 pub mod Alike
 pub mod Received
+pub mod Heard
 pub mod Counts
+pub mod Holds

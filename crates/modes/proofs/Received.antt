@@ -1,5 +1,5 @@
 -- Receiving inverts sending: by the laws, and by a link. Assumes nothing.
-use Rattle.std.proofs.Common.{◌≡◌, ℕ, ◌<◌, not, List, [], ◌∷◌, ◌++◌, length, take, is_some, Some, sym, refl, ap, ◌∙◌, subst, ap₂, append_assoc, append-nil, arith, length-append}
+use Rattle.std.proofs.Common.{◌≡◌, ℕ, ◌<◌, ◌≤◌, not, List, [], ◌∷◌, ◌++◌, length, take, is_some, Some, sym, refl, ap, ◌∙◌, subst, ap₂, append_assoc, append-nil, arith, length-append}
 use Rattle.std.proofs.lemmas.List.{take_at}
 use Rattle.block.specs.Bytes.{Block}
 use Rattle.modes.specs.Join.{join, part}
@@ -41,7 +41,7 @@ receiving_inverts m k k' start text bytes e a bs bt c =
 
 -- ---- a receiving link, CFB and OFB
 
-plain_is : {m : Mode} → Streams m → (k : Cipher) (v c : List ℕ) → plain_block m k v c ≡ part c (k.enc v)
+pub plain_is : {m : Mode} → Streams m → (k : Cipher) (v c : List ℕ) → plain_block m k v c ≡ part c (k.enc v)
 plain_is cfb k v c = refl
 plain_is ofb k v c = refl
 
@@ -63,11 +63,11 @@ record Behind (k : Cipher) (v c t text : List ℕ) : Type 0 where
   last : length (last_text k (after Cbc Receive k (state v c) t)) ≡ k.width
   gives : given Cbc Receive k (state v c) t ++ last_text k (after Cbc Receive k (state v c) t) ≡ plain_block Cbc k v c ++ text
 
--- the block c is held: the next block, of at least one byte, drives its text out
-driven : (k : Cipher) (v c b : List ℕ) → 0 < k.width → length c ≡ k.width → length b ≡ k.width
+-- the block c is held: bytes of the next block, one or more, drive its text out
+pub driven : (k : Cipher) (v c b : List ℕ) → length c ≡ k.width → 0 < length b → length b ≤ k.width
     → (after Cbc Receive k (state v c) b ≡ state c b) × (given Cbc Receive k (state v c) b ≡ plain_block Cbc k v c)
-driven k v c [] some lc lb = absurd (omega arith)
-driven k v c (x ∷ b) some lc lb =
+driven k v c [] lc some lb = absurd (omega arith)
+driven k v c (x ∷ b) lc some lb =
     let n = is_full k c lc in
     let h = hold k c (x ∷ []) b (omega arith) in
     (rw n h.holds, rw n (ap (λ g. plain_block Cbc k v c ++ g) h.gives ∙ append-nil (plain_block Cbc k v c)))
@@ -79,7 +79,7 @@ behind k some v c lc lp ends none none = record { held = lc; last = lp; gives = 
 behind k some v c lc lp (goes s ch) (short st b l g) cut = not_cbc st
 behind k some v c lc lp (goes s ch) (whole b l cut) (short st p g h) = not_cbc st
 behind k some v c lc lp (goes s ch) (whole b {rest} lb cut) (whole p {rest = more} l cut') =
-    let d = driven k v c b some lc lb in
+    let d = driven k v c b lc (omega (arith, some)) (omega arith) in
     let i = behind k some c b lb (ap length (sym s) ∙ l) ch cut cut' in
     let holds : after Cbc Receive k (state v c) (b ++ rest) ≡ after Cbc Receive k (state c b) rest =
     after_append Cbc Receive k (state v c) b rest ∙ ap (λ q. after Cbc Receive k q rest) d.0 in
@@ -122,7 +122,7 @@ cbc_received k some start text (goes s ch) (whole b {rest} lb cut) (whole p {res
     e ∙ ap (λ q. q ++ more) s ∙ sym r.gives in
     rw (holds, gives) (cbc_ends k some (after Cbc Receive k (state start b) rest) (given Cbc Receive k (state start b) rest) text r.held r.last is)
 
-received : (m : Mode) (k : Cipher) (start text bytes : List ℕ) → 0 < k.width → Plaintext m k start bytes text
+pub received : (m : Mode) (k : Cipher) (start text bytes : List ℕ) → 0 < k.width → Plaintext m k start bytes text
     → Returned m k (after m Receive k (opened start) bytes) (given m Receive k (opened start) bytes) text
 received Cbc k start text bytes some c = cbc_received k some start text c.chain c.bytes_cut c.text_cut refl
 received Cfb k start text bytes some c =

@@ -23,7 +23,7 @@ cipher_is : {m : Mode} → Streams m → (k : Cipher) (v p : List ℕ) → ciphe
 cipher_is cfb k v p = refl
 cipher_is ofb k v p = refl
 
-padded_is : {m : Mode} → Streams m → (w : ℕ) (text : List ℕ) → padded m w text ≡ text
+pub padded_is : {m : Mode} → Streams m → (w : ℕ) (text : List ℕ) → padded m w text ≡ text
 padded_is cfb w text = refl
 padded_is ofb w text = refl
 
@@ -36,7 +36,7 @@ closing_is ofb k s = refl
 pub cut_one : (m : Mode) (w : ℕ) (b : List ℕ) → length b ≡ w → Cut m w b (b ∷ [])
 cut_one m w b l = subst (λ t. Cut m w t (b ∷ [])) (append-nil b) (whole b l none)
 
-padded_front : (m : Mode) (w : ℕ) (b text : List ℕ) → length b ≡ w → padded m w (b ++ text) ≡ b ++ padded m w text
+pub padded_front : (m : Mode) (w : ℕ) (b text : List ℕ) → length b ≡ w → padded m w (b ++ text) ≡ b ++ padded m w text
 padded_front Cbc w b text l = append_assoc b text (padding w (b ++ text)) ∙ ap (λ q. b ++ (text ++ q)) (padding_front w b text l)
 padded_front Cfb w b text l = refl
 padded_front Ofb w b text l = refl

@@ -1,11 +1,12 @@
 -- What holds of links over every cipher, in the words of Modes. Assumes nothing.
 -- Of std, `concat`: pieces or blocks joined.
-use Rattle.std.specs.Prelude.{◌≡◌, ℕ, ◌<◌, false, List, ◌++◌, length}
+use Rattle.std.specs.Prelude.{◌≡◌, ℕ, ◌<◌, true, false, List, ◌++◌, length}
 use Rattle.std.specs.List.{concat}
 use Rattle.block.specs.Bytes.{Bytes, Block}
 use Rattle.modes.specs.Modes.{Cipher, Ciphertext, Plaintext}
-use Rattle.modes.specs.Machine.{State, opened, after, given, after_pieces, given_pieces, closing, ragged, bare, due_count, end_count, limit}
+use Rattle.modes.specs.Machine.{State, opened, after, given, after_pieces, given_pieces, closing, ragged, bare, due_count, held_count, uneven, end_count, limit}
 use Rattle.modes.specs.declared.Mode.{Mode}
+use Rattle.modes.specs.declared.Mode.TheVariants.{Cbc}
 use Rattle.modes.specs.declared.Direction.{Direction}
 use Rattle.modes.specs.declared.Direction.TheVariants.{Send, Receive}
 
@@ -82,6 +83,24 @@ ReceivesCiphertext = (m : Mode) (k k' : Cipher) (start text bytes : List ℕ) (p
     → Block k.width start → Bytes text → Ciphertext m k start text bytes → concat pieces ≡ bytes
     → Returned m k' (after_pieces m Receive k' (opened start) pieces) (given_pieces m Receive k' (opened start) pieces) text
 
+-- ---- receiving any bytes: an end is refused exactly where the law of receiving leads the bytes back to no text
+
+-- bytes that the mode leads back to no text
+abbrev pub NoText : Mode → Cipher → List ℕ → List ℕ → Type 0
+NoText m k start bytes = (text : List ℕ) → Plaintext m k start bytes text → ⊥
+
+-- what the end of a receiving link tells of the bytes that it took
+pub record Judged (m : Mode) (k : Cipher) (start bytes : List ℕ) (s : State) (so_far : List ℕ) : Type 0 where
+  pub accepted : ragged m Receive k s ≡ false → bare m Receive k s ≡ false → Plaintext m k start bytes (so_far ++ closing m Receive k s)
+  pub ragged_none : ragged m Receive k s ≡ true → NoText m k start bytes
+  pub bare_none : ragged m Receive k s ≡ false → bare m Receive k s ≡ true → NoText m k start bytes
+  pub none_bare : ragged m Receive k s ≡ false → NoText m k start bytes → bare m Receive k s ≡ true
+
+-- so it does, whatever bytes it took, in any pieces; D is used in CBC alone
+abbrev pub ReceivesBytes : Type 0
+ReceivesBytes = (m : Mode) (k : Cipher) (start bytes : List ℕ) (pieces : List (List ℕ)) → 0 < k.width → (m ≡ Cbc → Deciphers k) → Bytes bytes
+    → concat pieces ≡ bytes → Judged m k start bytes (after_pieces m Receive k (opened start) pieces) (given_pieces m Receive k (opened start) pieces)
+
 -- ---- counts
 
 -- a state that a link can have
@@ -90,11 +109,21 @@ pub record Fit (m : Mode) (d : Direction) (k : Cipher) (s : State) : Type 0 wher
   pub held : Bytes s.held
   pub room : length s.held < limit m d k.width
 
--- every piece leaves such a state, and gives so many bytes
+-- every piece leaves such a state, and gives so many bytes; D is used in receiving CBC alone
 abbrev pub Counts : Type 0
-Counts = (m : Mode) (d : Direction) (k : Cipher) (s : State) (piece : List ℕ) → Enciphers k → Deciphers k → Fit m d k s → Bytes piece
-    → Fit m d k (after m d k s piece) × (length (given m d k s piece) ≡ due_count m d k.width (length s.held) (length piece))
+Counts = (m : Mode) (d : Direction) (k : Cipher) (s : State) (piece : List ℕ) → Enciphers k → (m ≡ Cbc → d ≡ Receive → Deciphers k)
+    → Fit m d k s → Bytes piece → Fit m d k (after m d k s piece) × (length (given m d k s piece) ≡ due_count m d k.width (length s.held) (length piece))
 
 -- and an end gives so many
 abbrev pub EndsCount : Type 0
 EndsCount = (m : Mode) (d : Direction) (k : Cipher) (s : State) → Enciphers k → Fit m d k s → length (closing m d k s) ≡ end_count m d k s
+
+-- after a piece a link holds so many
+abbrev pub HoldsCount : Type 0
+HoldsCount = (m : Mode) (d : Direction) (k : Cipher) (s : State) (piece : List ℕ) → 0 < k.width → length s.held < limit m d k.width
+    → length (after m d k s piece).held ≡ held_count m d k.width (length s.held) (length piece)
+
+-- an end is ragged by the number of bytes taken since the open, and by nothing else
+abbrev pub RaggedByCount : Type 0
+RaggedByCount = (m : Mode) (d : Direction) (k : Cipher) (start bytes : List ℕ) → 0 < k.width
+    → ragged m d k (after m d k (opened start) bytes) ≡ uneven m d k.width (length bytes)

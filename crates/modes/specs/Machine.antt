@@ -1,6 +1,6 @@
 -- How a link goes on, byte by byte: its state, what a byte gives, what an end gives. Assumes nothing.
 -- Its laws stand in Laws: from open to end it gives what the mode's law says.
-use Rattle.std.specs.Prelude.{ℕ, suc, ◌+◌, ◌-◌, ◌*◌, ◌/◌, Bool, false, cond, not, List, [], ◌∷◌, ◌++◌, length, take, is_some, Some, None, Option, ◌==◌, slice_index}
+use Rattle.std.specs.Prelude.{ℕ, zero, suc, ◌+◌, ◌-◌, ◌*◌, ◌/◌, ◌%◌, Bool, false, cond, not, ◌||◌, List, [], ◌∷◌, ◌++◌, length, take, is_some, Some, None, Option, ◌==◌, slice_index}
 use Rattle.modes.specs.Join.{join_byte, part_byte}
 use Rattle.modes.specs.Padding.{padding, text_end}
 use Rattle.modes.specs.Modes.{Cipher, cipher_block, plain_block}
@@ -142,6 +142,25 @@ due_count Cbc Send w h n = (h + n) / w * w
 due_count Cbc Receive w h n = (h + n - 1) / w * w
 due_count Cfb d w h n = n
 due_count Ofb d w h n = n
+
+-- of t bytes, those beyond the blocks that a receiving CBC link gave: 1 to w once any came
+abbrev pub kept_back : ℕ → ℕ → ℕ
+kept_back w zero = 0
+kept_back w (suc t) = suc (t % w)
+
+-- how many bytes a link that held h bytes holds after n more
+abbrev pub held_count : Mode → Direction → ℕ → ℕ → ℕ → ℕ
+held_count Cbc Send w h n = (h + n) % w
+held_count Cbc Receive w h n = kept_back w (h + n)
+held_count Cfb d w h n = (h + n) % w
+held_count Ofb d w h n = (h + n) % w
+
+-- whether a link that took n bytes ends ragged: receiving CBC, of no byte, or of bytes that are no whole blocks
+abbrev pub uneven : Mode → Direction → ℕ → ℕ → Bool
+uneven Cbc Send w n = false
+uneven Cbc Receive w n = n == 0 || not (n % w == 0)
+uneven Cfb d w n = false
+uneven Ofb d w n = false
 
 -- how many bytes an end gives
 abbrev pub end_count : Mode → Direction → Cipher → State → ℕ

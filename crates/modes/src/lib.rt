@@ -3,7 +3,7 @@
 // Rests on the bytes and the XOR of crate block, and on the refusals of crate refusal.
 #![tactic(auto)]
 
-ghost use Rattle.modes.specs.Laws.{PiecesJoin, SendsCiphertext, OneCiphertext, SameCiphertext, ReceivingInverts, ReceivesPlaintext, ReceivesCiphertext, Counts, EndsCount};
+ghost use Rattle.modes.specs.Laws.{PiecesJoin, SendsCiphertext, OneCiphertext, SameCiphertext, ReceivingInverts, ReceivesPlaintext, ReceivesCiphertext, ReceivesBytes, Counts, EndsCount, HoldsCount, RaggedByCount};
 
 pub mod join;
 mod numbers;
@@ -25,7 +25,8 @@ pub enum Direction {
 }
 
 // From open to end a sending link gives its mode's ciphertext; a receiving link that takes it, in any pieces,
-// ends without a refusal and has given the text.
+// ends without a refusal and has given the text. Of any bytes it gives the text that the mode leads them back to, or there is
+// none and its end is refused.
 pub fn receiving_inverts_sending() -> bool
     ensures pieces { PiecesJoin }
     ensures sends { SendsCiphertext }
@@ -34,14 +35,18 @@ pub fn receiving_inverts_sending() -> bool
     ensures inverts { ReceivingInverts }
     ensures hears { ReceivesPlaintext }
     ensures receives { ReceivesCiphertext }
+    ensures judges { ReceivesBytes }
 {
     true
 }
 
-// How many bytes each piece and an end give, in every mode and direction; a piece leaves a state that a link can have.
+// How many bytes each piece and an end give, and how many are held, in every mode and direction; a piece leaves a state that a
+// link can have. An end is ragged by the number of bytes taken.
 pub fn counts_stand() -> bool
     ensures pieces { Counts }
     ensures ends { EndsCount }
+    ensures holds { HoldsCount }
+    ensures ragged { RaggedByCount }
 {
     true
 }
