@@ -107,6 +107,19 @@ figures =
     (under_key aes (range_with_len 0 16) counted ≡ 0x69 ∷ 0xC4 ∷ 0xE0 ∷ 0xD8 ∷ 0x6A ∷ 0x7B ∷ 0x04 ∷ 0x30 ∷ 0xD8 ∷ 0xCD ∷ 0xB7 ∷ 0x80 ∷ 0x70 ∷ 0xB4 ∷ 0xC5 ∷ 0x5A ∷ []) ∷
     (under_key aes (range_with_len 0 24) counted ≡ 0xDD ∷ 0xA9 ∷ 0x7C ∷ 0xA4 ∷ 0x86 ∷ 0x4C ∷ 0xDF ∷ 0xE0 ∷ 0x6E ∷ 0xAF ∷ 0x70 ∷ 0xA0 ∷ 0xEC ∷ 0x0D ∷ 0x71 ∷ 0x91 ∷ []) ∷
     (under_key aes (range_with_len 0 32) counted ≡ 0x8E ∷ 0xA2 ∷ 0xB7 ∷ 0xCA ∷ 0x51 ∷ 0x67 ∷ 0x45 ∷ 0xBF ∷ 0xEA ∷ 0xFC ∷ 0x49 ∷ 0x90 ∷ 0x4B ∷ 0x49 ∷ 0x60 ∷ 0x89 ∷ []) ∷
+    -- the cells that keys of each length need; other lengths are refused with the length as it came
+    (mkv_128.need 16 ≡ Ok 13) ∷
+    (mkv_128.need 24 ≡ Ok 15) ∷
+    (mkv_128.need 32 ≡ Ok 17) ∷
+    (mkv_256.need 32 ≡ Ok 26) ∷
+    (mkv_256.need 48 ≡ Ok 30) ∷
+    (mkv_256.need 64 ≡ Ok 34) ∷
+    (aes.need 16 ≡ Ok 11) ∷
+    (aes.need 24 ≡ Ok 13) ∷
+    (aes.need 32 ≡ Ok 15) ∷
+    (mkv_128.need 0 ≡ refused 0 0) ∷
+    (mkv_256.need 16 ≡ refused 0 16) ∷
+    (aes.need 300 ≡ refused 0 300) ∷
     -- whitened MKV-128: 48 key bytes need 15 cells; 32 and 31 are refused
     (white.need 48 ≡ Ok 15) ∷
     (white.need 32 ≡ refused 1 0) ∷
