@@ -31,22 +31,11 @@ abbrev pub NameBase : {K : Type 0} → (List ℕ → K → Type 0) → List (Lis
 NameBase IsWord words (One cipher) = (text : List ℕ) × (words ≡ text ∷ []) × IsWord text cipher
 NameBase IsWord words (Two first split second) = (a : List ℕ) × (n : List ℕ) × (b : List ℕ) × (words ≡ a ∷ n ∷ b ∷ []) × IsWord a first × Writes n split × IsWord b second
 
--- words that name none, where `NoWord` says which word names no cipher
-abbrev pub NoBase : (List ℕ → Type 0) → List (List ℕ) → Type 0
-NoBase NoWord (text ∷ []) = NoWord text
-NoBase NoWord (a ∷ n ∷ b ∷ []) = NoWord a ⊎ (((k : ℕ) → Writes n k → ⊥) ⊎ NoWord b)
-NoBase NoWord words = ⊤
-
 -- the words of a coat, which come first
 abbrev pub coat_words : Coat → List (List ℕ)
 coat_words Bare = []
 coat_words Whitened = codes "whitened" ∷ []
 coat_words TwiceWhitened = codes "whitened" ∷ codes "whitened" ∷ []
-
--- the words after a coat that is whole: they tell no further whitening, or there is none
-abbrev pub Whole : Coat → List (List ℕ) → Type 0
-Whole TwiceWhitened words = ⊤
-Whole coat words = (rest : List (List ℕ)) → words ≢ codes "whitened" ∷ rest
 
 -- words that name a base in its coat
 abbrev pub NameCoated : {K : Type 0} → (K → List ℕ) → List (List ℕ) → Coated K → Type 0
@@ -56,3 +45,16 @@ NameCoated of words c = (rest : List (List ℕ)) × (words ≡ coat_words c.coat
 abbrev pub Name : List (List ℕ) → Pile → Type 0
 Name words (NarrowPile c) = NameCoated word words c
 Name words (WidePile c) = NameCoated wide_word words c
+
+-- ---- what the inner calls tell
+
+-- words that name none, where `NoWord` says which word names no cipher
+abbrev pub NoBase : (List ℕ → Type 0) → List (List ℕ) → Type 0
+NoBase NoWord (text ∷ []) = NoWord text
+NoBase NoWord (a ∷ n ∷ b ∷ []) = NoWord a ⊎ (((k : ℕ) → Writes n k → ⊥) ⊎ NoWord b)
+NoBase NoWord words = ⊤
+
+-- the words after a coat that is whole: they tell no further whitening, or there is none
+abbrev pub Whole : Coat → List (List ℕ) → Type 0
+Whole TwiceWhitened words = ⊤
+Whole coat words = (rest : List (List ℕ)) → words ≢ codes "whitened" ∷ rest

@@ -1,7 +1,7 @@
 // The comparisons: a value with the one that is due, a block enciphered, an answer deciphered.
-// Promises that what passes is equal, and what a passed answer says of the cipher's definition.
+// Promises that exactly what is equal passes, what a passed answer says of the cipher's definition, and why one does not pass.
 // Rests on the ciphers (cipher).
-ghost use Rattle.std.specs.Prelude.{◌≡◌, ◌*◌, ◌+◌, ◌≤◌, ◌↔◌, ◌<◌, None, take, drop, length, codes, IfOk, IfErr, OnOk, IsOk, MatchResult};
+ghost use Rattle.std.specs.Prelude.{◌≡◌, ◌*◌, ◌+◌, ◌≤◌, ◌↔◌, None, take, drop, length, codes, IfOk, IfErr, OnOk, IsOk};
 ghost use Rattle.kit.specs.Calls.{cipher_refusal};
 ghost use Rattle.compare.specs.Ciphers.{meaning, ciphered};
 ghost use Rattle.compare.specs.Faults.{Tells, Explains, Unkeyed, Expects};

@@ -1,5 +1,5 @@
 // Bytes written as hexadecimal digits, two a byte, in capitals.
-// Promises that bytes that are read have the text as their spelling.
+// Promises that bytes that are read have the text as their spelling, and that no text that spells bytes is refused for its form.
 // Rests on nothing.
 ghost use Rattle.std.specs.Prelude.{◌≡◌, ℕ, ◌/◌, ◌%◌, ◌<◌, MatchOption, MatchResult, ◌≢◌};
 ghost use Rattle.compare.specs.Hex.{digit as digit_of, spelled, NoBytes};
