@@ -39,12 +39,14 @@ start_right t key = drop (4 * t) key ++ map (λ x. 255 - x) (drop (length key - 
 unfoldable pub schedule : ℕ → List (List ℕ) → ℕ → List ℕ → List ℕ
 schedule t m r key = start_left t key ++ updates t m r 1 (start_left t key) (start_right t key)
 
--- the rule of a schedule s of r updates, for a key of n words: blocks Left_0, Right_0, Left_1, Right_1, .., Left_r, Right_r
+-- the rule of a schedule s of r updates, for a key of n words: it is made of the blocks Left_i and Right_i, i from 0 to r, but for Right_0
 pub record Expands (t : ℕ) (m : List (List ℕ)) (n r : ℕ) (key s : List ℕ) : Type 0 where
   pub left : ℕ → List ℕ
   pub right : ℕ → List ℕ
-  -- Left_0 is the key's first four words; word i of Right_0 is the key's word 4 + i or, where the key has none, the complement of its word i
+  -- Left_0 is the key's first four words; Right_0 is a block too, whose word i is the key's word 4 + i or, where the key has none, the
+  -- complement of its word i
   pub begins : left 0 ≡ take (4 * t) key
+  pub four : length (right 0) ≡ 4 * t
   pub given : (i : ℕ) → 4 + i < n → word t i (right 0) ≡ word t (4 + i) key
   pub filled : (i : ℕ) → i < 4 → n ≤ 4 + i → word t i (right 0) ≡ map (λ x. 255 - x) (word t i key)
   -- update i

@@ -318,6 +318,7 @@ module _ (t : ℕ) (m n : List (List ℕ)) (u : Inverse t m n) (r : ℕ) (key : 
     left = left_of;
     right = right_of;
     begins = left_begins;
+    four = ap length right_begins ∙ right_0.size;
     given = λ i h. ap (word t i) right_begins ∙ word_given t k key e i h;
     filled = λ i h g. ap (word t i) right_begins ∙ word_filled t k key e i low h g;
     lefts = left_updated;
