@@ -37,6 +37,7 @@ pub shut_sits : (s : Standing) (i : ℕ) (l : Link) → l.open ≡ false → s.c
 shut_sits s i l e none =
     record {
       fits = λ o. absurd (both_ways l.open e o);
+      clear = λ o. absurd (both_ways l.open e o);
       sized = λ o. absurd (both_ways l.open e o);
       few = λ o. absurd (both_ways l.open e o);
       shut = λ h. none;

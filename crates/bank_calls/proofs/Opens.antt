@@ -19,7 +19,7 @@ use Rattle.modes.specs.declared.Mode.TheVariants.{Ofb}
 use Rattle.modes.specs.declared.Direction.{Direction}
 use Rattle.modes.specs.declared.Direction.TheVariants.{Receive}
 use Rattle.link.specs.declared.Link.{Link}
-use Rattle.link.specs.Record.{view, begun, Fits}
+use Rattle.link.specs.Record.{view, begun, Fits, Clear}
 use Rattle.bank.specs.Books.{links}
 use Rattle.bank.specs.Calls.{Ask, mode_of, direction_of, unknown, need, key_checks, start_checks, open_checks, Opened, Opens}
 use Rattle.bank_calls.specs.Table.{at}
@@ -122,9 +122,9 @@ room_alike b memory shown n =
     (sym (eight_seen (standing b.shelf.book) b.links []) ∙ eight_seen (standing b.shelf.book) b.links memory)
 
 -- a link just opened is as the bank keeps it
-pub begun_sits : (s : Standing) (i : ℕ) (l : Link) → l.open ≡ true → Fits l → 1 ≤ s.size → length (s.chain i) ≤ 96 → Sits s i l
-begun_sits s i l o f sized few =
-    record { fits = λ _. f; sized = λ _. sized; few = λ _. few; shut = λ h. absurd (both_ways l.open h.1 o) }
+pub begun_sits : (s : Standing) (i : ℕ) (l : Link) → l.open ≡ true → Fits l → Clear l → 1 ≤ s.size → length (s.chain i) ≤ 96 → Sits s i l
+begun_sits s i l o f clear sized few =
+    record { fits = λ _. f; clear = λ _. clear; sized = λ _. sized; few = λ _. few; shut = λ h. absurd (both_ways l.open h.1 o) }
 
 pub opened_both : {K : Type 0} (m : Meaning) (b b' : Bank K) (memory memory' : List (List ℕ)) (a : Ask) (i n : ℕ) → m.need (length a.key) ≡ Ok n → i < 8 → (at b.links i).open ≡ false →
     length (m.schedule a.key) ≡ 16 * n → n ≤ free (standing b.shelf.book) → view (begun (mode_of a.mode) (direction_of a.direction) (length a.key) m.width a.start) ≡ opened a.start →

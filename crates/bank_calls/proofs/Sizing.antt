@@ -50,6 +50,7 @@ sized_keeps b n (Ok done) s' did =
     let zero = unsized b.shelf.book.size n did.told in
     every b.links s' b.eight (λ i. record {
       fits = b.fits i;
+      clear = b.clear i;
       sized = λ o. absurd (omega (arith, b.sized i o, zero));
       few = λ o. absurd (omega (arith, b.sized i o, zero));
       shut = λ h. did.holds.none i (omega (arith, h.0));

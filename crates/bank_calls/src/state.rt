@@ -1,6 +1,6 @@
 // What a bank holds: its kit, its shelf of key cells with a chain for each link, and the link records in a plain table.
 ghost use Rattle.std.specs.Prelude.{◌≡◌, ℕ, ◌<◌, ◌≤◌, true, false, [], length};
-ghost use Rattle.link.specs.Record.{Fits};
+ghost use Rattle.link.specs.Record.{Fits, Clear};
 ghost use Rattle.shelf.specs.Standing.{standing};
 ghost use Rattle.bank_calls.specs.Table.{at};
 
@@ -18,6 +18,7 @@ pub struct Bank<K> {
     pub(super) links: [Link; LINKS],
     ghost eight: { length links ≡ 8 },
     ghost fits: { (i : ℕ) → (at links i).open ≡ true → Fits (at links i) },
+    ghost clear: { (i : ℕ) → (at links i).open ≡ true → Clear (at links i) },
     ghost sized: { (i : ℕ) → (at links i).open ≡ true → 1 ≤ shelf.book.size },
     ghost few: { (i : ℕ) → (at links i).open ≡ true → length ((standing shelf.book).chain i) ≤ 96 },
     ghost shut: { (i : ℕ) → (i < 8) × ((at links i).open ≡ false) → (standing shelf.book).chain i ≡ [] },

@@ -6,3 +6,4 @@ pub mod Feeds
 pub mod Lengths
 pub mod Puts
 pub mod Closings
+pub mod Clears

@@ -1,5 +1,5 @@
 -- One byte of a CBC link, over the arrays of its record. Assumes nothing.
-use Rattle.std.proofs.Common.{◌≡◌, ℕ, ◌-◌, ◌≤◌, List, [], ◌∷◌, length, take, set, sym, refl, ap, ◌∙◌, ap₂, arith}
+use Rattle.std.proofs.Common.{◌≡◌, ℕ, ◌-◌, ◌≤◌, List, [], ◌∷◌, length, take, set, replicate, sym, refl, ap, ◌∙◌, ap₂, arith}
 use Rattle.std.proofs.lemmas.List.{length-take-le}
 use Rattle.kit.specs.Meaning.{Meaning}
 use Rattle.modes.specs.Join.{part}
@@ -39,10 +39,6 @@ limit_as l md d e f = ap₂ (λ y z. limit y z l.width) e f
 pub kept : (l : Link) (chain held : List ℕ) (count : ℕ) → Kept l (link l chain held count)
 kept l chain held count = record { stays = refl; mode = refl; direction = refl; key = refl; width = refl }
 
-first_of : (h : List ℕ) (x : ℕ) → 1 ≤ length h → take 1 (set h 0 x) ≡ x ∷ []
-first_of [] x l = absurd (omega arith)
-first_of (y ∷ h) x l = refl
-
 -- a block of an array that is due, written to the front
 wrote : (block out out' d : List ℕ) (w : ℕ) → take w block ≡ d → out' ≡ overwritten out (take (w - 0) block) → out' ≡ overwritten out d
 wrote block out out' d w e o = let z : w - 0 ≡ w = omega arith in o ∙ ap (λ n. overwritten out (take n block)) z ∙ ap (overwritten out) e
@@ -67,15 +63,15 @@ module _ (m : Meaning) (s : List ℕ) (l : Link) (x : ℕ) (out : List ℕ) (f :
           ∙ ap (λ n. part (k.dec (take n l.held)) v) whole_held ∙ sym is
 
       pub receive_full : (out' : List ℕ) → length text ≡ 32 → out' ≡ overwritten out (take (l.width - 0) text)
-          → Took m s l x out l.width (link l l.held (set l.held 0 x) 1) out'
+          → Took m s l x out l.width (link l l.held (set (replicate 32 0) 0 x) 1) out'
       receive_full out' b o =
           let e = limit_as l Cbc Receive cbc receives in
           let n : length (take l.width text) ≡ l.width = length-take-le l.width text (omega (arith, f.thin)) in
           record {
             count = sym (ap length receive_due ∙ n);
             output = wrote text out out' (link_due m s l x) l.width (sym receive_due) o;
-            state = ap₂ state (ap (λ j. take j l.held) (sym whole_held)) (first_of l.held x (omega arith))
+            state = ap₂ state (ap (λ j. take j l.held) (sym whole_held)) refl
                 ∙ sym (fed_as m s l x Cbc Receive cbc receives ∙ open_fed k v (take l.count l.held) x long_held);
             fits = record { some = f.some; thin = f.thin; begun = omega (arith, f.some) };
-            kept = kept l l.held (set l.held 0 x) 1;
+            kept = kept l l.held (set (replicate 32 0) 0 x) 1;
           }

@@ -1,5 +1,5 @@
 -- What a link's record means: the state of its machine, and its cipher. Assumes nothing.
-use Rattle.std.specs.Prelude.{◌≡◌, ℕ, ◌-◌, ◌<◌, ◌≤◌, true, false, List, ◌++◌, take, replicate}
+use Rattle.std.specs.Prelude.{◌≡◌, ℕ, ◌-◌, ◌<◌, ◌≤◌, true, false, List, ◌++◌, take, drop, replicate}
 use Rattle.kit.specs.Meaning.{Meaning}
 use Rattle.kit.specs.Calls.{enciphered, deciphered}
 use Rattle.modes.specs.Join.{join_byte, part_byte}
@@ -24,6 +24,11 @@ pub record Fits (l : Link) : Type 0 where
   pub some : 1 ≤ l.width
   pub thin : l.width ≤ 32
   pub begun : l.count < limit l.mode l.direction l.width
+
+-- beyond its block, and beyond the bytes held, a record has zeros: no key, no other text
+pub record Clear (l : Link) : Type 0 where
+  pub chain : drop l.width l.chain ≡ replicate (32 - l.width) 0
+  pub held : drop l.count l.held ≡ replicate (32 - l.count) 0
 
 -- what no call changes but the end
 pub record Kept (l l' : Link) : Type 0 where

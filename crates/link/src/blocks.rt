@@ -1,7 +1,7 @@
 // Blocks in arrays of 32 bytes, of which the first `width` count: CBC's two ways, and bytes at the front of an output.
 // Promises what each block then holds, for every schedule.
 // Rests on the kit's calls and on the joining of crate modes.
-ghost use Rattle.std.specs.Prelude.{◌≡◌, ◌≤◌, length, take};
+ghost use Rattle.std.specs.Prelude.{◌≡◌, ◌≤◌, length, take, drop};
 ghost use Rattle.block.specs.Bytes.{Bytes};
 ghost use Rattle.kit.specs.Calls.{enciphered, deciphered};
 ghost use Rattle.modes.specs.Join.{join, part};
@@ -36,7 +36,8 @@ impl Link {
     // E of a block of text joined with the block before.
     pub(crate) fn seal<K: Kit>(&self, kit: &K, schedule: &[u8], text: &[u8; 32]) -> [u8; 32]
         requires { self.now.width ≤ 32 }
-        ensures { take self.now.width result ≡ enciphered (K.Kit.meaning kit.now) self.now.key schedule.now (join (take self.now.width text.now) (take self.now.width self.now.chain)) }
+        ensures block { take self.now.width result ≡ enciphered (K.Kit.meaning kit.now) self.now.key schedule.now (join (take self.now.width text.now) (take self.now.width self.now.chain)) }
+        ensures beyond { drop self.now.width result ≡ drop self.now.width text.now }
     {
         let mut block = *text;
         let part = &mut block[0..self.width];
@@ -60,7 +61,8 @@ impl Link {
     // E of the chain block.
     pub(crate) fn pad<K: Kit>(&self, kit: &K, schedule: &[u8]) -> [u8; 32]
         requires { self.now.width ≤ 32 }
-        ensures { take self.now.width result ≡ enciphered (K.Kit.meaning kit.now) self.now.key schedule.now (take self.now.width self.now.chain) }
+        ensures block { take self.now.width result ≡ enciphered (K.Kit.meaning kit.now) self.now.key schedule.now (take self.now.width self.now.chain) }
+        ensures beyond { drop self.now.width result ≡ drop self.now.width self.now.chain }
     {
         let mut block = self.chain;
         let pad = &mut block[0..self.width];

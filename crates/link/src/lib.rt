@@ -6,7 +6,7 @@
 ghost use Rattle.std.specs.Prelude.{◌≡◌, ℕ, ◌<◌, ◌≤◌, List, length};
 ghost use Rattle.kit.specs.Meaning.{Meaning};
 ghost use Rattle.modes.specs.Machine.{due_count, opened as opens};
-ghost use Rattle.link.specs.Record.{view, Fits, closed as zeros, begun};
+ghost use Rattle.link.specs.Record.{view, Fits, Clear, closed as zeros, begun};
 ghost use Rattle.link.specs.Calls.{Room, Stepped, Fed, Puts, Ends, Gives, link_given};
 
 mod blocks;
@@ -70,6 +70,7 @@ impl Link {
         ensures record { result ≡ begun mode direction key (length start.now) start.now }
         ensures state { view result ≡ opens start.now }
         ensures fits { Fits result }
+        ensures clear { Clear result }
     {
         let mut chain = [0; 32];
         chain[0..start.len()].copy_from_slice(start);
@@ -127,7 +128,8 @@ impl Link {
     fn feed<K: Kit>(&mut self, kit: &K, schedule: &[u8], piece: &[u8], out: &mut [u8]) -> usize
         requires fits { Fits self.old }
         requires room { length (link_given (K.Kit.meaning kit.now) schedule.now self.old piece.now) ≤ length out.old }
-        ensures { Fed (K.Kit.meaning kit.now) schedule.now self.old piece.now out.old result self.new out.new }
+        ensures fed { Fed (K.Kit.meaning kit.now) schedule.now self.old piece.now out.old result self.new out.new }
+        ensures clear { Clear self.old → Clear self.new }
     {
         let mut at = 0;
         for x in piece {
@@ -145,7 +147,8 @@ impl Link {
         out: &mut [u8],
     ) -> Result<usize, Refusal>
         requires { Fits self.old }
-        ensures { Puts (K.Kit.meaning kit.now) schedule.now self.old piece.now out.old result self.new out.new }
+        ensures puts { Puts (K.Kit.meaning kit.now) schedule.now self.old piece.now out.old result self.new out.new }
+        ensures clear { Clear self.old → Clear self.new }
     {
         if piece.len() > LONGEST {
             return Err(Refusal::Piece);

@@ -1,11 +1,11 @@
 // How a link takes one byte, in each mode and direction.
 // Promises the state after it and the bytes that it gives; E or D is called once a block.
 // Rests on the blocks beside it.
-ghost use Rattle.std.specs.Prelude.{◌≡◌, ◌<◌, ◌≤◌, length, take, ◌≢◌};
+ghost use Rattle.std.specs.Prelude.{◌≡◌, ◌<◌, ◌≤◌, length, take, drop, ◌≢◌, replicate};
 ghost use Rattle.modes.specs.declared.Mode.TheVariants.{Cbc};
 ghost use Rattle.modes.specs.declared.Direction.TheVariants.{Send, Receive};
 ghost use Rattle.modes.specs.Machine.{rolled};
-ghost use Rattle.link.specs.Record.{Fits, link};
+ghost use Rattle.link.specs.Record.{Fits, Clear, link};
 ghost use Rattle.link.specs.Calls.{Took, link_due, link_pad};
 
 use crate::Link;
@@ -19,7 +19,8 @@ impl Link {
     pub(crate) fn take<K: Kit>(&mut self, kit: &K, schedule: &[u8], x: u8, out: &mut [u8]) -> usize
         requires fits { Fits self.old }
         requires room { length (link_due (K.Kit.meaning kit.now) schedule.now self.old x) ≤ length out.old }
-        ensures { Took (K.Kit.meaning kit.now) schedule.now self.old x out.old result self.new out.new }
+        ensures took { Took (K.Kit.meaning kit.now) schedule.now self.old x out.old result self.new out.new }
+        ensures clear { Clear self.old → Clear self.new }
     {
         // no closure or `dyn` for a step: the same match on the record's own mode would choose it
         match (self.mode, self.direction) {
@@ -41,7 +42,8 @@ impl Link {
         requires room { length (link_due (K.Kit.meaning kit.now) schedule.now self.old x) ≤ length out.old }
         requires cbc { self.old.mode ≡ Cbc }
         requires sends { self.old.direction ≡ Send }
-        ensures { Took (K.Kit.meaning kit.now) schedule.now self.old x out.old result self.new out.new }
+        ensures took { Took (K.Kit.meaning kit.now) schedule.now self.old x out.old result self.new out.new }
+        ensures clear { Clear self.old → Clear self.new }
     {
         self.held[self.count] = x;
         if self.count + 1 < self.width {
@@ -51,6 +53,7 @@ impl Link {
         let block = self.seal(kit, schedule, &self.held);
         write_front(out, &block[0..self.width]);
         self.chain = block;
+        self.held = [0; 32];
         self.count = 0;
         self.width
     }
@@ -67,7 +70,8 @@ impl Link {
         requires room { length (link_due (K.Kit.meaning kit.now) schedule.now self.old x) ≤ length out.old }
         requires cbc { self.old.mode ≡ Cbc }
         requires receives { self.old.direction ≡ Receive }
-        ensures { Took (K.Kit.meaning kit.now) schedule.now self.old x out.old result self.new out.new }
+        ensures took { Took (K.Kit.meaning kit.now) schedule.now self.old x out.old result self.new out.new }
+        ensures clear { Clear self.old → Clear self.new }
     {
         if self.count < self.width {
             self.held[self.count] = x;
@@ -77,6 +81,7 @@ impl Link {
         let text = self.unseal(kit, schedule);
         write_front(out, &text[0..self.width]);
         self.chain = self.held;
+        self.held = [0; 32];
         self.held[0] = x;
         self.count = 1;
         self.width
@@ -86,6 +91,7 @@ impl Link {
     fn begin_block<K: Kit>(&mut self, kit: &K, schedule: &[u8])
         requires { Fits self.old }
         ensures pad { take self.old.width self.new.chain ≡ link_pad (K.Kit.meaning kit.now) schedule.now self.old }
+        ensures beyond { drop self.old.width self.new.chain ≡ drop self.old.width self.old.chain }
         ensures rest { self.new ≡ link self.old self.new.chain self.old.held self.old.count }
     {
         if self.count == 0 {
@@ -95,12 +101,13 @@ impl Link {
 
     // CFB and OFB: of a block's pad and its ciphertext, the mode's is the block before the next one.
     fn roll(&mut self)
-        ensures { self.new ≡ link self.old (rolled self.old.mode self.old.chain self.old.held) self.old.held 0 }
+        ensures { self.new ≡ link self.old (rolled self.old.mode self.old.chain self.old.held) (replicate 32 0) 0 }
     {
-        self.count = 0;
         if self.mode != Mode::Ofb {
             self.chain = self.held;
         }
+        self.held = [0; 32];
+        self.count = 0;
     }
 
     // CFB and OFB: each byte is given as it comes.
@@ -114,7 +121,8 @@ impl Link {
         requires fits { Fits self.old }
         requires room { length (link_due (K.Kit.meaning kit.now) schedule.now self.old x) ≤ length out.old }
         requires streams { self.old.mode ≢ Cbc }
-        ensures { Took (K.Kit.meaning kit.now) schedule.now self.old x out.old result self.new out.new }
+        ensures took { Took (K.Kit.meaning kit.now) schedule.now self.old x out.old result self.new out.new }
+        ensures clear { Clear self.old → Clear self.new }
     {
         self.begin_block(kit, schedule);
         let y = mix_byte(self.direction, x, self.chain[self.count]);

@@ -3,8 +3,8 @@ use Rattle.block.proofs.Parts.{bytes_from}
 use Rattle.link.proofs.Puts.{put_short}
 use Rattle.link.proofs.Link.put.Goals as goal
 
-pub returns-then-out-due_count : goal.returns-then-out-due_count
-returns-then-out-due_count g c =
+pub returns-then-out-due_count-clause-puts : goal.returns-then-out-due_count-clause-puts
+returns-then-out-due_count-clause-puts g c =
     let m = g.K.Kit.meaning c.args.kit.now in
     let s = c.args.schedule.now in
     let piece = c.args.piece.now in

@@ -31,7 +31,7 @@ returns g c =
     let long : length c.args.self.now.held ≡ 32 = search rules in
     let whole : length c.seal-block.result ≡ 32 = search rules in
     let z : c.args.self.now.width - 0 ≡ c.args.self.now.width = omega arith in
-    let e = send_closing m s l c.requires.fits c.requires.cbc long c.requires.sends c.pad_from.new.block _ c.seal-block.result c.pad_from.ensures c.seal-block.ensures in
+    let e = send_closing m s l c.requires.fits c.requires.cbc long c.requires.sends c.pad_from.new.block _ c.seal-block.result c.pad_from.ensures c.seal-block.ensures.block in
     end_given m s l c.args.out.now (ragged_as m s l c.requires.fits c.requires.cbc long Send c.requires.sends) (bare_as m s l c.requires.fits c.requires.cbc long Send c.requires.sends)
     l.width (ap length e ∙ length-take-le l.width c.seal-block.result (omega (arith, whole, c.requires.fits.thin))) c.if-out-self.false
     c.write_front.new.out (c.write_front.ensures ∙ ap (λ n. overwritten c.args.out.now (take n c.seal-block.result)) z ∙ ap (overwritten c.args.out.now) (sym e))

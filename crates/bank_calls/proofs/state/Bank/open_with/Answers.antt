@@ -82,7 +82,7 @@ invariant_of-self g c =
     let many = length_key_cells ((m g c).schedule c.args.asked.now.key.now) n (long g c) in
     let sized : 1 ≤ s'.size = omega (arith, gr.sized, (few g c).0, (passed g c).1) in
     let short : length (s'.chain i) ≤ 96 = omega (arith, grown_many gr, ap length (b.shut i vacant), many, (few g c).1) in
-    written b i c.opened.result s' vacant.0 (begun_sits s' i c.opened.result (ap (λ (l : Link). l.open) c.opened.ensures.record) c.opened.ensures.fits sized short) gr.sized gr.others
+    written b i c.opened.result s' vacant.0 (begun_sits s' i c.opened.result (ap (λ (l : Link). l.open) c.opened.ensures.record) c.opened.ensures.fits c.opened.ensures.clear sized short) gr.sized gr.others
 
 pub returns : goal.returns
 returns g c =
