@@ -1,5 +1,5 @@
 -- The cells and the links of a bank, by its books and by its past. Assumes nothing.
-use Rattle.std.proofs.Common.{◌≡◌, ℕ, zero, suc, ◌+◌, ◌-◌, ◌<◌, ◌≤◌, true, false, cond, eqb, ltb, List, [], ◌∷◌, Some, None, Ok, Err, Option, Result, sym, refl, ap, ◌∙◌, inl, inr, arith}
+use Rattle.std.proofs.Common.{◌≡◌, ◌↔◌, ℕ, zero, suc, ◌+◌, ◌-◌, ◌<◌, ◌≤◌, true, false, cond, eqb, ltb, List, [], ◌∷◌, Some, None, Ok, Err, Option, Result, sym, refl, ap, ◌∙◌, inl, inr, arith}
 use Rattle.std.proofs.lemmas.Bool.{eq-eqb, ne_eqb, cases_eq, cases_lt, lt-ltb, le-ltb}
 use Rattle.refusal.specs.Checks.{first, refusal}
 use Rattle.refusal.specs.declared.Refusal.{Refusal}
@@ -9,7 +9,7 @@ use Rattle.kit.specs.Meaning.{Meaning}
 use Rattle.bank.specs.Books.{Books, Running, eight, one_if_open, cells_if_open, links, Only}
 use Rattle.bank.specs.Calls.{Ask, need, fresh, fed_link, early_checks, open_checks, Struck, Opens}
 use Rattle.bank.specs.Past.{Event, opens, puts, ends, strikes, Step, Ran, starts, calls, open_now, need_if_open, cells_now, links_now}
-use Rattle.bank.specs.Law.{ExactlyWhen, ShortOfCells, Told}
+use Rattle.bank.specs.Law.{ShortOfCells, Told}
 use Rattle.bank.proofs.Runs.{Change, nothing, one, change, last, earlier, size_ran, high_ran}
 
 -- ---- sums over the eight links
@@ -100,7 +100,7 @@ module _ (m : Meaning) where
   -- ---- short of cells
 
   short_step : (n : ℕ) (past : List Event) (b b' : Books) (a : Ask) (answer : Result ℕ Refusal) → Ran m n past b → Opens m b a answer b' → first (early_checks m n (links_now past) a) ≡ None
-      → ExactlyWhen (answer ≡ Err Cells) (n - cells_now m past < need m a.key)
+      → (answer ≡ Err Cells) ↔ (n - cells_now m past < need m a.key)
   short_step n past b b' a answer r did early =
       let t = told_ran n past b r in
       let checks : refusal answer ≡ first (open_checks m n (links_now past) (n - cells_now m past) a) =

@@ -3,8 +3,9 @@ use Rattle.std.specs.Prelude.{◌≡◌, ℕ, ◌+◌, ◌<◌, Bool, true, not,
 use Rattle.refusal.specs.Checks.{Answers}
 use Rattle.refusal.specs.declared.KeyFault.{KeyFault}
 use Rattle.refusal.specs.declared.Refusal.{Refusal}
-use Rattle.refusal.specs.declared.Refusal.TheVariants.{Scratch, Memory, Cells, Key, Mode, Start, Links, Closed, Piece, Output, Ragged, Padding}
-use Rattle.modes.specs.Machine.{opened, after, given, closing, ragged, bare}
+use Rattle.refusal.specs.declared.Refusal.TheVariants.{Scratch, Memory, Cells, Key, Mode, Start, Links, Closed}
+use Rattle.modes.specs.Checks.{piece_checks, closing_checks}
+use Rattle.modes.specs.Machine.{opened, after, given, closing}
 use Rattle.modes.specs.Numbers.{mode_numbered, direction_numbered}
 use Rattle.modes.specs.declared.Mode as mode
 use Rattle.modes.specs.declared.Mode.TheVariants.{Ofb}
@@ -92,10 +93,10 @@ abbrev pub link_checks : Books → Buffers → Option Running → List (Bool × 
 link_checks b f None = (not (f.scratch == 1536), Scratch) ∷ (true, Closed) ∷ []
 link_checks b f (Some l) = (not (f.scratch == 1536), Scratch) ∷ (not (f.memory == b.size), Memory) ∷ []
 
--- and then, of a put: 13, the length of the piece; 14, the room for what is due
+-- and then, of a put, the piece's
 abbrev pub put_tail : Meaning → Buffers → Option Running → List ℕ → List (Bool × Refusal)
 put_tail m f None piece = []
-put_tail m f (Some l) piece = (nat_lt 4096 (length piece), Piece) ∷ (nat_lt f.out (length (given_link m l piece)), Output) ∷ []
+put_tail m f (Some l) piece = piece_checks l.mode l.direction (tool m l) l.state piece f.out
 
 abbrev pub put_checks : Meaning → Books → Buffers → ℕ → List ℕ → List (Bool × Refusal)
 put_checks m b f i piece = link_checks b f (b.link i) ++ put_tail m f (b.link i) piece
@@ -118,12 +119,10 @@ Puts m b f i piece r b' = Answers (put_checks m b f i piece) r (λ bytes. Fed m 
 abbrev pub last_bytes : Meaning → Running → List ℕ
 last_bytes m l = closing l.mode l.direction (tool m l) l.state
 
--- and then, of an end: 15, 16; 14, the room for the last bytes
+-- and then, of an end, the end's
 abbrev pub end_tail : Meaning → Buffers → Option Running → List (Bool × Refusal)
 end_tail m f None = []
-end_tail m f (Some l) =
-    (ragged l.mode l.direction (tool m l) l.state, Ragged) ∷ (bare l.mode l.direction (tool m l) l.state, Padding) ∷
-    (nat_lt f.out (length (last_bytes m l)), Output) ∷ []
+end_tail m f (Some l) = closing_checks l.mode l.direction (tool m l) l.state f.out
 
 abbrev pub end_checks : Meaning → Books → Buffers → ℕ → List (Bool × Refusal)
 end_checks m b f i = link_checks b f (b.link i) ++ end_tail m f (b.link i)

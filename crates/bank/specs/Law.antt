@@ -1,5 +1,5 @@
 -- The law of banks, over every kit that keeps the meaning and every past. Assumes nothing.
-use Rattle.std.specs.Prelude.{◌≡◌, ℕ, ◌-◌, ◌<◌, ◌≤◌, List, ◌∷◌, ◌++◌, length, None, Ok, Err, Result, ◌≢◌}
+use Rattle.std.specs.Prelude.{◌≡◌, ◌↔◌, ℕ, ◌-◌, ◌<◌, ◌≤◌, List, ◌∷◌, ◌++◌, length, None, Ok, Err, Result, ◌≢◌}
 use Rattle.refusal.specs.Checks.{first}
 use Rattle.refusal.specs.declared.Refusal.{Refusal}
 use Rattle.refusal.specs.declared.Refusal.TheVariants.{Cells, Ragged, Padding}
@@ -8,10 +8,6 @@ use Rattle.kit.specs.Meaning.{Meaning, Sound, Agree}
 use Rattle.bank.specs.Books.{Books, links}
 use Rattle.bank.specs.Calls.{Ask, mode_of, need, early_checks}
 use Rattle.bank.specs.Past.{Event, opens, Ran, Session, cells_now, links_now}
-
--- each follows from the other
-abbrev pub ExactlyWhen : Type 0 → Type 0 → Type 0
-ExactlyWhen P Q = (P → Q) × (Q → P)
 
 -- the kit's cipher under a key
 abbrev pub keyed : Meaning → List ℕ → Cipher
@@ -22,7 +18,7 @@ keyed m key = record { width = m.width; enc = m.enc (length key) (m.schedule key
 abbrev pub ShortOfCells : Meaning → ℕ → List Event → Type 0
 ShortOfCells m n past = (later before : List Event) (a : Ask) (answer : Result ℕ Refusal) → past ≡ later ++ (opens a answer ∷ before)
     → first (early_checks m n (links_now before) a) ≡ None
-    → ExactlyWhen (answer ≡ Err Cells) (n - cells_now m before < need m a.key)
+    → (answer ≡ Err Cells) ↔ (n - cells_now m before < need m a.key)
 
 -- The bytes that a sending link gave, from its open to its accepted end, are its mode's ciphertext of the bytes it took.
 abbrev pub Sends : Meaning → List Event → Type 0

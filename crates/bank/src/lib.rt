@@ -6,8 +6,6 @@
 ghost use Rattle.bank.specs.Law.{Law};
 
 // The law over every past of a bank, from what is promised of its calls.
-pub fn law_of_banks() -> bool
+pub fn law_of_banks()
     ensures { Law }
-{
-    true
-}
+{}

@@ -2,7 +2,7 @@
 use Rattle.std.proofs.Common.{◌≡◌, ℕ, zero, suc, ◌+◌, ◌*◌, ◌/◌, ◌%◌, ◌<◌, sym, refl, ap, ◌∙◌, ap₂, add-zero, zero-lt-suc, zero-add, arith}
 use lib.Bits.{bit_xor, xor_block, xor_zero_r}
 use Rattle.field.specs.Byte.{sel, times_x, mul_digits, mul}
-use Rattle.field.specs.Laws.{Multiplies, FieldLaws}
+use Rattle.field.specs.Laws.{Multiplies, ProductLaws}
 use Rattle.field.proofs.Laws.{mul_lt, mul_comm, mul_assoc, mul_xor_right, mul_one_left, mul_zero_right, mul_times_x, digits_times_x}
 
 -- a number is its last digit and twice the rest
@@ -71,8 +71,8 @@ multiplies p hp = record {
       ∙ ap (times_x p) (mul_comm p b a (omega arith) ha);
 }
 
-pub field_laws : (p : ℕ) → p < 256 → FieldLaws p
-field_laws p hp = record {
+pub product_laws : (p : ℕ) → p < 256 → ProductLaws p
+product_laws p hp = record {
   low = λ a b ha hb. mul_lt p a b hp ha;
   commutes = mul_comm p;
   associates = λ a b c ha hb hc. mul_assoc p a b c hp ha hb hc;

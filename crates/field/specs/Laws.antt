@@ -9,7 +9,8 @@ pub record Multiplies (p : ℕ) (f : ℕ → ℕ → ℕ) : Type 0 where
   pub sum : (a b c : ℕ) → a < 256 → b < 256 → c < 256 → f a (bit_xor b c) ≡ bit_xor (f a b) (f a c)
   pub shift : (a b : ℕ) → a < 256 → b < 128 → f a (b * 2) ≡ times_x p (f a b)
 
-pub record FieldLaws (p : ℕ) : Type 0 where
+-- what holds of the product of bytes, and fixes it
+pub record ProductLaws (p : ℕ) : Type 0 where
   pub low : (a b : ℕ) → a < 256 → b < 256 → mul p a b < 256
   pub commutes : (a b : ℕ) → a < 256 → b < 256 → mul p a b ≡ mul p b a
   pub associates : (a b c : ℕ) → a < 256 → b < 256 → c < 256 → mul p (mul p a b) c ≡ mul p a (mul p b c)

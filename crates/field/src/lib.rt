@@ -1,5 +1,5 @@
 // Bytes as polynomials over GF(2), modulo x^8 + poly: products, rows times columns, matrices times columns, and times each word of a block.
-// Promises the product that the laws of the field fix, at every polynomial, and that an inverse matrix undoes a matrix.
+// Promises the product that its laws fix, at every polynomial, and that an inverse matrix undoes a matrix.
 // Rests on the bytes of crate block.
 #![tactic(auto)]
 
@@ -7,7 +7,7 @@ ghost use Rattle.std.specs.Prelude.{◌≡◌, ℕ, ◌*◌, ◌<◌, length};
 ghost use Rattle.block.specs.Bytes.{fitted};
 ghost use Rattle.block.specs.Words.{each_word};
 ghost use Rattle.field.specs.Byte.{times_x, mul as product};
-ghost use Rattle.field.specs.Laws.{FieldLaws};
+ghost use Rattle.field.specs.Laws.{ProductLaws};
 ghost use Rattle.field.specs.Matrix.{dot as inner, apply as matrix, InverseUndoes};
 ghost use Rattle.field.specs.Known.{Known};
 
@@ -72,11 +72,9 @@ pub fn apply_each<const T: usize>(poly: u8, m: &[[u8; T]; T], block: &mut [u8])
     }
 }
 
-// At every polynomial the product obeys the laws of a field's product, which fix it; inverse matrices undo matrices.
-pub fn field_stands() -> bool
-    ensures laws { (p : ℕ) → p < 256 → FieldLaws p }
+// At every polynomial the product obeys the laws that fix it; inverse matrices undo matrices.
+pub fn field_stands()
+    ensures laws { (p : ℕ) → p < 256 → ProductLaws p }
     ensures inverse { InverseUndoes }
     ensures known { Known }
-{
-    true
-}
+{}

@@ -32,11 +32,6 @@ told_ok (Err fault) n e = let z : ◌≡◌ {A = ℕ} 0 1 = cc in absurd (omega 
 
 -- ---- a call that fits is not refused
 
--- an answer that refuses nothing is Ok
-pub accepted : (r : Result Unit Refusal) → refusal r ≡ None → r ≡ Ok tt
-accepted (Ok tt) e = refl
-accepted (Err f) e = let z : ◌≡◌ {A = ℕ} 0 1 = cc in absurd (omega arith)
-
 pub expanded_fits : (m : Meaning) (key out : List ℕ) (n : ℕ) → m.need (length key) ≡ Ok n → length out ≡ 16 * n → expanded m key out ≡ m.schedule key
 expanded_fits m key out n e s = ap (λ r. unless r (m.schedule key) out) (expand_passes (m.need (length key)) (length out) n e s)
 

@@ -1,11 +1,11 @@
 -- What each call on a link answers and leaves. Assumes nothing.
-use Rattle.std.specs.Prelude.{◌≡◌, ℕ, ◌≤◌, Bool, List, [], ◌∷◌, ◌++◌, length, take, drop, Result, MatchResult, nat_lt}
+use Rattle.std.specs.Prelude.{◌≡◌, ℕ, ◌≤◌, Bool, List, ◌++◌, length, take, drop, Result, MatchResult}
 use Rattle.refusal.specs.Checks.{Answers}
 use Rattle.refusal.specs.declared.Refusal.{Refusal}
-use Rattle.refusal.specs.declared.Refusal.TheVariants.{Piece, Output, Ragged, Padding}
 use Rattle.block.specs.Bytes.{Bytes}
 use Rattle.kit.specs.Meaning.{Meaning, Sound}
-use Rattle.modes.specs.Machine.{State, fed, due, after, given, closing, ragged, bare, pad}
+use Rattle.modes.specs.Checks.{piece_checks, closing_checks}
+use Rattle.modes.specs.Machine.{State, fed, due, after, given, closing, pad}
 use Rattle.link.specs.declared.Link.{Link}
 use Rattle.link.specs.declared.Call.{Call}
 use Rattle.link.specs.declared.Call.TheVariants.{Byte, End}
@@ -45,11 +45,9 @@ pub record Took (m : Meaning) (s : List ℕ) (l : Link) (x : ℕ) (out : List �
   pub fits : Fits l'
   pub kept : Kept l l'
 
--- the end: its checks in order; the last bytes stand at the front of out
+-- the end: its checks; the last bytes stand at the front of out
 abbrev pub end_checks : Meaning → List ℕ → Link → ℕ → List (Bool × Refusal)
-end_checks m s l out =
-    (ragged l.mode l.direction (instrument m s l) (view l), Ragged) ∷ (bare l.mode l.direction (instrument m s l) (view l), Padding) ∷
-    (nat_lt out (length (link_closing m s l)), Output) ∷ []
+end_checks m s l out = closing_checks l.mode l.direction (instrument m s l) (view l) out
 
 -- an end that is accepted gives n bytes
 pub record Closed (m : Meaning) (s : List ℕ) (l : Link) (out : List ℕ) (n : ℕ) (out' : List ℕ) : Type 0 where
@@ -80,9 +78,9 @@ pub record Fed (m : Meaning) (s : List ℕ) (l : Link) (piece out : List ℕ) (r
   pub fits : Fits l'
   pub kept : Kept l l'
 
--- the checks of a piece, in order
+-- the checks of a piece
 abbrev pub put_checks : Meaning → List ℕ → Link → List ℕ → ℕ → List (Bool × Refusal)
-put_checks m s l piece out = (nat_lt 4096 (length piece), Piece) ∷ (nat_lt out (length (link_given m s l piece)), Output) ∷ []
+put_checks m s l piece out = piece_checks l.mode l.direction (instrument m s l) (view l) piece out
 
 -- a refusal leaves the record and out as they were
 abbrev pub Puts : Meaning → List ℕ → Link → List ℕ → List ℕ → Result ℕ Refusal → Link → List ℕ → Type 0

@@ -27,7 +27,7 @@ pub enum Direction {
 // From open to end a sending link gives its mode's ciphertext; a receiving link that takes it, in any pieces,
 // ends without a refusal and has given the text. Of any bytes it gives the text that the mode leads them back to, or there is
 // none and its end is refused.
-pub fn receiving_inverts_sending() -> bool
+pub fn receiving_inverts_sending()
     ensures pieces { PiecesJoin }
     ensures sends { SendsCiphertext }
     ensures one { OneCiphertext }
@@ -36,17 +36,13 @@ pub fn receiving_inverts_sending() -> bool
     ensures hears { ReceivesPlaintext }
     ensures receives { ReceivesCiphertext }
     ensures judges { ReceivesBytes }
-{
-    true
-}
+{}
 
 // How many bytes each piece and an end give, and how many are held, in every mode and direction; a piece leaves a state that a
 // link can have. An end is ragged by the number of bytes taken.
-pub fn counts_stand() -> bool
+pub fn counts_stand()
     ensures pieces { Counts }
     ensures ends { EndsCount }
     ensures holds { HoldsCount }
     ensures ragged { RaggedByCount }
-{
-    true
-}
+{}

@@ -1,11 +1,10 @@
 -- Going through the checks of the calls on a chain in cell memory: the chain, the memory, and one more. Assumes nothing.
-use Rattle.std.proofs.Common.{◌≡◌, ℕ, ◌<◌, Bool, true, false, not, eqb, ltb, List, [], ◌∷◌, ◌++◌, Some, None, Err, Result, sym, refl, ap, ◌∙◌, inl, inr, arith}
+use Rattle.std.proofs.Common.{◌≡◌, ◌↔◌, ℕ, ◌<◌, Bool, true, false, not, eqb, ltb, List, [], ◌∷◌, ◌++◌, Some, None, Err, Result, sym, refl, ap, ◌∙◌, inl, inr, arith}
 use Rattle.std.proofs.lemmas.Bool.{eq-eqb, eqb-true, ltb-false, le-ltb, not-false, cases_Bool}
 use Rattle.refusal.specs.Checks.{first, refusal}
 use Rattle.refusal.specs.declared.Refusal.{Refusal}
 use Rattle.refusal.proofs.Checks.{told_here, told_later, none_due, refusal_err}
 use Rattle.shelf.specs.Calls.{access_checks}
-use Rattle.shelf.specs.Past.{ExactlyWhen}
 
 -- a call whose chain and memory are right meets the third check alone
 module _ {size shown c : ℕ} (low : c < 16) (whole : shown ≡ size) where
@@ -25,7 +24,7 @@ module _ {size shown c : ℕ} (low : c < 16) (whole : shown ≡ size) where
   third_clear b e clear = told_later _ _ _ _ chain_clear (told_later _ _ _ _ memory_clear (told_later _ _ _ _ clear refl))
 
   -- it tells that exactly where it is due
-  pub third_exactly : {A : Type 0} (r : Result A Refusal) (b : Bool) (e : Refusal) → refusal r ≡ first (checks b e) → ExactlyWhen (r ≡ Err e) (b ≡ true)
+  pub third_exactly : {A : Type 0} (r : Result A Refusal) (b : Bool) (e : Refusal) → refusal r ≡ first (checks b e) → (r ≡ Err e) ↔ (b ≡ true)
   third_exactly r b e told = (
     λ is. elim (cases_Bool b) [ inl t ↦ t | inr f ↦ (let one = ap refusal is in let two = third_clear b e f in let z : ◌≡◌ {A = ℕ} 0 1 = cc in absurd (omega arith)) ],
     λ due. refusal_err r e (told ∙ sym (third_due b e due)),

@@ -1,6 +1,6 @@
 -- The past of a shelf, and the law of every past. Assumes nothing.
 -- A past is the list of the append, read and drop calls since the shelf was sized, the newest first, each with its answer.
-use Rattle.std.specs.Prelude.{◌≡◌, ℕ, ◌-◌, ◌<◌, ◌≤◌, cond, List, [], ◌∷◌, ◌++◌, length, Some, Ok, Err, Result, ◌==◌, ◌≢◌}
+use Rattle.std.specs.Prelude.{◌≡◌, ◌↔◌, ℕ, ◌-◌, ◌<◌, ◌≤◌, cond, List, [], ◌∷◌, ◌++◌, length, Some, Ok, Err, Result, ◌==◌, ◌≢◌}
 use Rattle.std.specs.List.{slice_get}
 use Rattle.refusal.specs.Checks.{first, refusal}
 use Rattle.refusal.specs.declared.Refusal.{Refusal}
@@ -32,22 +32,18 @@ room n past = n - total (λ c. length (left past c))
 
 -- ---- the law: every answer of a past is told by the calls before it
 
--- each follows from the other
-abbrev pub ExactlyWhen : Type 0 → Type 0 → Type 0
-ExactlyWhen P Q = (P → Q) × (Q → P)
-
 -- An append answers what its checks say at the room that was left. So one that passes the earlier checks is refused for
 -- want of cells exactly when fewer cells were left than it has items.
 pub record AppendDue {T : Type 0} (n : ℕ) (past : List (Call T)) (shown c : ℕ) (items : List T) (r : Result (Unit {0}) Refusal) : Type 0 where
   pub answer : refusal r ≡ first (append_checks n (room n past) shown c (length items))
-  pub short : c < 16 → shown ≡ n → ExactlyWhen (r ≡ Err Cells) (room n past < length items)
+  pub short : c < 16 → shown ≡ n → (r ≡ Err Cells) ↔ (room n past < length items)
 
 -- A read answers what its checks say at the items that were left. So an accepted one gives the item that was left at
 -- that position, and one that passes the earlier checks is refused exactly where none was left.
 pub record ReadDue {T : Type 0} (n : ℕ) (past : List (Call T)) (shown c p : ℕ) (r : Result T Refusal) : Type 0 where
   pub answer : refusal r ≡ first (read_checks n (length (left past c)) shown c p)
   pub gives : (x : T) → r ≡ Ok x → slice_get (left past c) p ≡ Some x
-  pub ended : c < 16 → shown ≡ n → ExactlyWhen (r ≡ Err Position) (length (left past c) ≤ p)
+  pub ended : c < 16 → shown ≡ n → (r ≡ Err Position) ↔ (length (left past c) ≤ p)
 
 -- each answer of a past is the one that is due after the calls before it
 abbrev pub Lawful : {T : Type 0} → ℕ → List (Call T) → Type 0
