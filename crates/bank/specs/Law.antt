@@ -4,10 +4,12 @@ use Rattle.refusal.specs.Checks.{first}
 use Rattle.refusal.specs.declared.Refusal.{Refusal}
 use Rattle.refusal.specs.declared.Refusal.TheVariants.{Cells, Ragged, Padding}
 use Rattle.modes.specs.Modes.{Cipher, Ciphertext}
+use Rattle.modes.specs.declared.Mode as mode
+use Rattle.modes.specs.declared.Mode.TheVariants.{Cbc, Cfb, Ofb}
 use Rattle.kit.specs.Meaning.{Meaning, Sound, Agree}
 use Rattle.bank.specs.Books.{Books, links}
 use Rattle.bank.specs.Calls.{Ask, mode_of, need, early_checks}
-use Rattle.bank.specs.Past.{Event, opens, Ran, Session, cells_now, links_now}
+use Rattle.bank.specs.Past.{Event, opens, Ran, Course, Session, Gave, cells_now, links_now}
 
 -- the kit's cipher under a key
 abbrev pub keyed : Meaning → List ℕ → Cipher
@@ -35,6 +37,32 @@ Hears m past m' past' = (a a' : Ask) (text bytes last bytes' : List ℕ) (answer
     → Session past' a' (bytes ++ last) bytes' answer
     → (answer ≢ Err Ragged) × (answer ≢ Err Padding) × ((last' : List ℕ) → answer ≡ Ok last' → bytes' ++ last' ≡ text)
 
+-- what is to come of a sending link that takes no more: in CBC a padded block
+abbrev pub to_come : mode.Mode → ℕ → ℕ
+to_come Cbc width = width
+to_come Cfb width = 0
+to_come Ofb width = 0
+
+-- these bytes are the ciphertext of the text, but for what is to come at the end
+pub record Front (m : Meaning) (a : Ask) (text bytes : List ℕ) : Type 0 where
+  pub last : List ℕ
+  pub long : length last ≡ to_come (mode_of a.mode) m.width
+  pub is : Ciphertext (mode_of a.mode) (keyed m a.key) a.start text (bytes ++ last)
+
+-- And while it is open: the bytes that a sending link gave are at every moment all but the last of its mode's ciphertext of
+-- the bytes it took.
+abbrev pub SendsFront : Meaning → List Event → Type 0
+SendsFront m past = (i : ℕ) (a : Ask) (text bytes : List ℕ) → a.direction ≡ 0 → Course past i a text bytes → Front m a text bytes
+
+-- A receiving link that took the front of what a sender gave, so far or in all, has at every moment given the front of what
+-- the sender took.
+abbrev pub HearsFront : Meaning → List Event → Meaning → List Event → Type 0
+HearsFront m past m' past' = (i : ℕ) (a a' : Ask) (text bytes took more gave : List ℕ)
+    → a.direction ≡ 0 → Gave past a text bytes
+    → a'.direction ≡ 1 → a'.mode ≡ a.mode → a'.key ≡ a.key → a'.start ≡ a.start → Agree m m' a.key
+    → Course past' i a' took gave → took ++ more ≡ bytes
+    → (rest : List ℕ) × (gave ++ rest ≡ text)
+
 -- What the books tell is what the past tells: the open links never have more cells than there are, and the others are free.
 pub record Told (m : Meaning) (n : ℕ) (past : List Event) (b : Books) : Type 0 where
   pub fits : cells_now m past ≤ n
@@ -45,7 +73,8 @@ pub record Told (m : Meaning) (n : ℕ) (past : List Event) (b : Books) : Type 0
 pub record LawAfter (m : Meaning) (n : ℕ) (past : List Event) (b : Books) : Type 0 where
   pub short : ShortOfCells m n past
   pub sends : Sends m past
-  pub hears : (m' : Meaning) → Sound m' → (n' : ℕ) (past' : List Event) (b' : Books) → Ran m' n' past' b' → Hears m past m' past'
+  pub sends_front : SendsFront m past
+  pub hears : (m' : Meaning) → Sound m' → (n' : ℕ) (past' : List Event) (b' : Books) → Ran m' n' past' b' → Hears m past m' past' × HearsFront m past m' past'
   pub told : Told m n past b
 
 -- the law of banks

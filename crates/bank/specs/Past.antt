@@ -64,17 +64,27 @@ Stays i (ends j (Ok bytes) ∷ past) = (i ≢ j) × Stays i past
 Stays i (ends j (Err r) ∷ past) = Stays i past
 Stays i (strikes j ∷ past) = (i ≢ j) × Stays i past
 
--- A link of a past, from the open a that handed out its ticket to an end with this answer: it took the text, and its puts
--- gave these bytes.
+-- A link that is open now, since the open a that handed out its ticket: it took the text, and its puts gave these bytes.
+pub record Course (past : List Event) (i : ℕ) (a : Ask) (text bytes : List ℕ) : Type 0 where
+  pub during : List Event
+  pub before : List Event
+  pub is : past ≡ during ++ (opens a (Ok i) ∷ before)
+  pub stays : Stays i during
+  pub takes : text ≡ took i during
+  pub gives : bytes ≡ gave i during
+
+-- A link of a past, from its open to an end with this answer.
 pub record Session (past : List Event) (a : Ask) (text bytes : List ℕ) (answer : Result (List ℕ) Refusal) : Type 0 where
   pub link : ℕ
   pub later : List Event
-  pub during : List Event
-  pub before : List Event
-  pub is : past ≡ later ++ (ends link answer ∷ (during ++ (opens a (Ok link) ∷ before)))
-  pub stays : Stays link during
-  pub takes : text ≡ took link during
-  pub gives : bytes ≡ gave link during
+  pub earlier : List Event
+  pub is : past ≡ later ++ (ends link answer ∷ earlier)
+  pub course : Course earlier link a text bytes
+
+-- What a link took and gave since its open: so far, or in all, where its end was accepted.
+pub data Gave (past : List Event) (a : Ask) (text : List ℕ) : List ℕ → Type 0 where
+  so_far : {i : ℕ} {bytes : List ℕ} → Course past i a text bytes → Gave past a text bytes
+  in_all : {bytes last : List ℕ} → Session past a text bytes (Ok last) → Gave past a text (bytes ++ last)
 
 -- ---- the pasts that a bank may have
 

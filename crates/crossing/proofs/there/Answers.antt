@@ -1,4 +1,4 @@
-use Rattle.std.proofs.Common.{◌≡◌, ℕ, List, [], ◌∷◌, ◌++◌, length, take, cond, Ok, Result, ◌==◌, sym, refl, ap, ap₂, ◌∙◌, rules}
+use Rattle.std.proofs.Common.{◌≡◌, ℕ, List, [], ◌∷◌, ◌++◌, length, Ok, Result, ◌==◌, sym, refl, ap, ap₂, rules}
 use Rattle.std.proofs.lemmas.Bool.{eq-eqb, cond-true}
 use Rattle.refusal.specs.declared.Refusal.{Refusal}
 use Rattle.shelf.specs.Past.{its_own}
@@ -6,7 +6,7 @@ use Rattle.kit.specs.Meaning.{Agree}
 use Rattle.aes.specs.Versions.{aes, need}
 use Rattle.aes.specs.Sound.{sound}
 use Rattle.bank.specs.Calls.{Ask}
-use Rattle.bank.specs.Past.{Event, opens, puts, ends, Session}
+use Rattle.bank.specs.Past.{opens, puts, ends, Session}
 use Rattle.bank_calls.specs.Calls.{number, gave, reason}
 use Rattle.crossing.proofs.there.Goals as goal
 
@@ -16,12 +16,16 @@ one_piece : (a : Ask) (x : Result ℕ Refusal) (l l' : ℕ) (text bytes last : L
 one_piece a x l l' text bytes last y z q1 q0 q2 q3 = record {
   link = l;
   later = [];
-  during = puts l text (Ok bytes) ∷ [];
-  before = [];
+  earlier = puts l' text y ∷ (opens a x ∷ []);
   is = cc;
-  stays = tt;
-  takes = sym (cond-true (l == l) text [] (eq-eqb l l refl));
-  gives = sym (cond-true (l == l) bytes [] (eq-eqb l l refl));
+  course = record {
+    during = puts l text (Ok bytes) ∷ [];
+    before = [];
+    is = cc;
+    stays = tt;
+    takes = sym (cond-true (l == l) text [] (eq-eqb l l refl));
+    gives = sym (cond-true (l == l) bytes [] (eq-eqb l l refl));
+  };
 }
 
 -- and so with two puts, whatever the end answers
@@ -33,12 +37,16 @@ two_pieces a x l l' l'' p q b d y z answer q1 q0 q00 q2 q3 =
     record {
       link = l;
       later = [];
-      during = puts l q (Ok d) ∷ (puts l p (Ok b) ∷ []);
-      before = [];
+      earlier = puts l'' q z ∷ (puts l' p y ∷ (opens a x ∷ []));
       is = cc;
-      stays = tt;
-      takes = sym (ap₂ ◌++◌ (cond-true (l == l) p [] e) (cond-true (l == l) q [] e));
-      gives = sym (ap₂ ◌++◌ (cond-true (l == l) b [] e) (cond-true (l == l) d [] e));
+      course = record {
+        during = puts l q (Ok d) ∷ (puts l p (Ok b) ∷ []);
+        before = [];
+        is = cc;
+        stays = tt;
+        takes = sym (ap₂ ◌++◌ (cond-true (l == l) p [] e) (cond-true (l == l) q [] e));
+        gives = sym (ap₂ ◌++◌ (cond-true (l == l) b [] e) (cond-true (l == l) d [] e));
+      };
     }
 
 pub returns-in-Ok-end-2 : goal.returns-in-Ok-end-2
@@ -63,4 +71,4 @@ returns-in-Ok-end-2 c =
     let long : length c.args.key.now ≡ 16 = search rules in
     let agree : Agree aes aes c.args.key.now = record { first = (11, ap need long); second = (11, ap need long); widths = refl; alike = λ x h. refl } in
     let law = (c.size.ensures.law aes sound 11 _ _ ended).hears aes sound 11 _ _ ended_there in
-    (law _ _ _ _ _ _ _ refl sent refl refl refl refl agree heard).2 _ (ap (λ r. gave (reason r) c.end-2.new.out) c.in-Ok-end-2.is)
+    (law.0 _ _ _ _ _ _ _ refl sent refl refl refl refl agree heard).2 _ (ap (λ r. gave (reason r) c.end-2.new.out) c.in-Ok-end-2.is)
