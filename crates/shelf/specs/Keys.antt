@@ -17,6 +17,10 @@ key_cells bytes = first_chunks 16 (length bytes / 16) bytes
 unfoldable pub joined : List (List ℕ) → List ℕ
 joined cells = concat cells
 
+-- bytes that fill their cells are these cells joined
+abbrev pub GivesBack : List ℕ → Type 0
+GivesBack bytes = (n : ℕ) → length bytes ≡ 16 * n → joined (key_cells bytes) ≡ bytes
+
 -- what a gather of bytes checks: a whole chain of `long` cells, to `room` bytes
 abbrev pub gather_bytes_checks : (size long shown c room : ℕ) → List (Bool × Refusal)
 gather_bytes_checks size long shown c room = access_checks size shown c ++ ((nat_lt room (16 * long), Output) ∷ [])

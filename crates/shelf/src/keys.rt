@@ -3,7 +3,7 @@ ghost use Rattle.std.specs.Prelude.{◌≡◌, true, is_err};
 ghost use Rattle.shelf.specs.Standing.{standing};
 ghost use Rattle.shelf.specs.Calls.{Append};
 ghost use Rattle.shelf.specs.Past.{AddsAppend};
-ghost use Rattle.shelf.specs.Keys.{key_cells, GatherBytes};
+ghost use Rattle.shelf.specs.Keys.{key_cells, GivesBack, GatherBytes};
 
 use super::KeyCell;
 use super::shelf::Shelf;
@@ -21,6 +21,7 @@ impl Shelf<KeyCell> {
     ) -> Result<(), Refusal>
         ensures outcome { Append (standing self.old.book) cells.old chain (key_cells bytes.now) result (standing self.new.book) cells.new }
         ensures kept { is_err result ≡ true → self.new ≡ self.old }
+        ensures bytes { GivesBack bytes.now }
         ensures past { AddsAppend (standing self.old.book) cells.old chain (key_cells bytes.now) result (standing self.new.book) cells.new }
     {
         let (pieces, _rest) = bytes.as_chunks::<CELL>();
