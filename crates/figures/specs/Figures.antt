@@ -12,6 +12,7 @@ use Rattle.aes.specs.Tables.{s_box}
 use Rattle.aes.specs.Versions.{aes}
 use Rattle.layers.specs.Whitened.{whitened}
 use Rattle.layers.specs.Cascaded.{cascaded}
+use Rattle.layers.specs.Depth.{risen}
 use Rattle.kit.specs.Meaning.{Meaning}
 use Rattle.refusal.specs.declared.KeyFault.{KeyFault}
 use Rattle.refusal.specs.declared.Refusal.TheVariants.{Cells, Ragged}
@@ -127,6 +128,9 @@ figures =
     -- the cascade: 32 key bytes need 24 cells; 20 are refused
     (two.need 32 ≡ Ok 24) ∷
     (two.need 20 ≡ refused 1 4) ∷
+    -- a depth of 255 grows no further
+    (risen (refused 254 300) ≡ refused 255 300) ∷
+    (risen (refused 255 300) ≡ refused 255 300) ∷
     -- a bank of 41 cells: 13, 15 and 13 leave none; 26 are free after the two strikes, 15 of them are given and leave 11, and
     -- 13 are refused
     (left three_open ≡ 0) ∷

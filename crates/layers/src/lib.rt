@@ -42,21 +42,3 @@ fn bounded(len: usize, cells: usize) -> Result<usize, Refusal>
     }
     Ok(cells)
 }
-
-#[cfg(test)]
-mod tests {
-    use super::risen;
-    use refusal::{KeyFault, Refusal};
-
-    fn fault(depth: u8) -> Result<usize, Refusal> {
-        Err(Refusal::Key(KeyFault { depth, length: 300 }))
-    }
-
-    #[test]
-    fn a_depth_of_255_grows_no_further(rt: HostRuntime) {
-        assert!(rt; risen(fault(0)) == fault(1));
-        assert!(rt; risen(fault(254)) == fault(255));
-        assert!(rt; risen(fault(255)) == fault(255));
-        assert!(rt; risen(Ok(96)) == Ok(96));
-    }
-}

@@ -15,6 +15,3 @@ pub use shelf::Shelf;
 
 // One piece of a round key: what a shelf of keys holds in a cell.
 pub type KeyCell = [u8; 16];
-
-#[cfg(test)]
-mod tests;

@@ -24,4 +24,4 @@ use Rattle.figures.proofs.figures_hold.Goals as goal
 -- each row computes
 pub returns : goal.returns
 unfolding xor sub word each_word sel times_x mul_digits mul m4 m4_inverse m8 m8_inverse dot apply s s_inverse sub_cells sub_cells_back mix_words three x_words half_a half_b round round_back encipher decipher number_key stirred next_left next_right updates start_left start_right schedule worked aes_matrix aes_matrix_inverse s_box s_box_inverse sub_bytes inv_sub_bytes moved shift_rows inv_shift_rows mix_columns inv_mix_columns add_round_key aes_round last_round aes_rounds aes_encipher inv_round inv_last_round inv_rounds aes_decipher rot_word sub_word x_power rcon changed next longer words aes_schedule aes_worked under_key white_need two_need join part text_end figures
-returns c = (refl, (refl, (refl, (refl, (refl, (refl, (refl, (refl, (refl, (refl, (refl, (refl, (refl, (refl, (refl, (refl, (refl, (refl, (refl, (refl, (refl, (refl, (refl, (refl, (refl, (refl, (refl, (refl, (refl, (refl, (refl, (refl, (refl, (refl, (refl, (refl, (refl, (refl, (refl, (refl, (refl, (refl, (refl, (refl, (refl, (refl, (refl, (refl, (refl, (refl, (refl, (refl, (refl, (refl, (refl, tt)))))))))))))))))))))))))))))))))))))))))))))))))))))))
+returns c = (refl, (refl, (refl, (refl, (refl, (refl, (refl, (refl, (refl, (refl, (refl, (refl, (refl, (refl, (refl, (refl, (refl, (refl, (refl, (refl, (refl, (refl, (refl, (refl, (refl, (refl, (refl, (refl, (refl, (refl, (refl, (refl, (refl, (refl, (refl, (refl, (refl, (refl, (refl, (refl, (refl, (refl, (refl, (refl, (refl, (refl, (refl, (refl, (refl, (refl, (refl, (refl, (refl, (refl, (refl, (refl, (refl, tt)))))))))))))))))))))))))))))))))))))))))))))))))))))))))

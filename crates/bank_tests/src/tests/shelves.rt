@@ -1,6 +1,6 @@
 // What a shelf should do on examples, for both kinds of items.
-use super::{KeyCell, Shelf};
 use refusal::Refusal::{self, Cells, Chain, Memory, Output, Position, Size};
+use shelf::{KeyCell, Shelf};
 use std::process::Abort;
 use std::test::Fail;
 
