@@ -1,1 +1,2 @@
 pub mod Radios
+pub mod Reports

@@ -1,3 +1,4 @@
 pub mod Sets
 pub mod Radios
+pub mod Reports
 pub mod Season

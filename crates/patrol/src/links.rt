@@ -116,7 +116,7 @@ impl Search {
         let Some(channel) = channels.find(|channel| channel.place == place) else {
             return Err(sides.undone(Broken::ByPatroller(Refusal::Closed), None));
         };
-        let text = report::written(self.heap, records.as_slice())?;
+        let text = report::written(self.heap, &records)?;
         channel
             .send(&mut sides, text.as_slice())
             .map_err(|broken| sides.undone(broken, None))?;
