@@ -1,9 +1,9 @@
 -- How a set stands: its shelf and the records in its cell memory. Assumes nothing.
-use Rattle.std.specs.Prelude.{◌≡◌, ℕ, List, length, replicate, Result, Ok, Err, vec_items}
+use Rattle.std.specs.Prelude.{◌≡◌, ℕ, List, [], Some, None, length, replicate, Result, Ok, Err, vec_items}
 use Rattle.shelf.specs.Standing.{Standing, standing}
 use Rattle.shelf.specs.Items.{list}
 use Rattle.shelf.specs.Calls.{Empty, size_checks, gather_checks}
-use Rattle.refusal.specs.Checks.{Answers}
+use Rattle.refusal.specs.Checks.{Answers, first}
 use Rattle.refusal.specs.declared.Refusal.{Refusal}
 use Rattle.signal.specs.declared.record.SignalRecord.{SignalRecord}
 use Rattle.patrol.specs.declared.set.Transceiver.{Transceiver}
@@ -46,3 +46,7 @@ Sized t n (Err (Memory e)) t' = Kept t t'
 -- a whole list: refused as it would be with room for 256 records
 abbrev pub Whole : {V : Type 0} → (V → List SignalRecord) → Standing → List SignalRecord → ℕ → Result V Refusal → Type 0
 Whole items s cells c r = Answers (gather_checks s.size (length (s.chain c)) (length cells) c 256) r (λ v. items v ≡ list s cells c) (Unit {0})
+
+-- the same with no refusal: a list that is refused is told as empty
+abbrev pub whole_or_none : Standing → List SignalRecord → ℕ → List SignalRecord
+whole_or_none s cells c = elim (first (gather_checks s.size (length (s.chain c)) (length cells) c 256)) [ None ↦ list s cells c | Some refusal ↦ [] ]

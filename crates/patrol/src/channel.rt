@@ -1,4 +1,7 @@
 // A radio link from a patroller's set to the leader's. Text goes out in pieces and comes in in others, as a radio cuts it.
+ghost use Rattle.std.specs.Prelude.{◌≡◌};
+ghost use Rattle.bank.specs.Calls.{Strikes};
+ghost use Rattle.patrol.specs.Radios.{radio_books};
 ghost use Rattle.bank_calls.specs.Calls.{Written};
 
 use super::radio::{Agreed, Radio};
@@ -80,7 +83,10 @@ impl Channel {
     }
 
     // The numbers of the link, the patroller's and the leader's.
-    pub(super) fn links(&self) -> (usize, usize) {
+    pub(super) fn links(&self) -> (usize, usize)
+        ensures patroller { result.0 ≡ self.now.sends.link }
+        ensures leader { result.1 ≡ self.now.receives.link }
+    {
         (self.sends.link(), self.receives.link())
     }
 
@@ -126,7 +132,10 @@ impl Channel {
     }
 
     // Closes the link at once on both sets; what was under way is lost.
-    pub(super) fn strike(self, sides: &mut Sides<'_>) {
+    pub(super) fn strike(self, sides: &mut Sides<'_>)
+        ensures patroller { Strikes (radio_books sides.old.patroller.now.radio) self.sends.link (radio_books sides.new.patroller.now.radio) }
+        ensures leader { Strikes (radio_books sides.old.leader.now.radio) self.receives.link (radio_books sides.new.leader.now.radio) }
+    {
         let Channel {
             place: _,
             sends,
