@@ -1,6 +1,7 @@
 // A radio link from a patroller's set to the leader's. Text goes out in pieces and comes in in others, as a radio cuts it.
 ghost use Rattle.std.specs.Prelude.{◌≡◌};
 ghost use Rattle.bank.specs.Calls.{Strikes};
+ghost use Rattle.patrol.specs.Links.{OpensBoth, EndsOrStrikes};
 ghost use Rattle.patrol.specs.Radios.{radio_books};
 ghost use Rattle.bank_calls.specs.Calls.{Written};
 
@@ -60,7 +61,9 @@ impl Channel {
         place: usize,
         sides: &mut Sides<'_>,
         agreed: &Agreed<'_>,
-    ) -> Result<Channel, Broken> {
+    ) -> Result<Channel, Broken>
+        ensures { OpensBoth place sides.old.patroller.now.radio sides.old.leader.now.radio agreed.now result sides.new.patroller.now.radio sides.new.leader.now.radio }
+    {
         // a set is taken before its radio is lent: of a radio lent through both no proof is made
         let patroller = &mut *sides.patroller;
         let leader = &mut *sides.leader;
@@ -166,7 +169,8 @@ fn received(
 
 // Ends a link; where that is refused, it is struck.
 fn ended(radio: &mut Radio, ticket: Ticket, out: &mut [u8]) -> Result<usize, Refusal>
-    ensures { Written out.old result out.new }
+    ensures outcome { EndsOrStrikes radio.old ticket.link out.old result out.new radio.new }
+    ensures output { Written out.old result out.new }
 {
     match radio.end(ticket, out) {
         Ok(given) => Ok(given),

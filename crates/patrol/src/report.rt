@@ -1,5 +1,7 @@
 // A report as it goes over a link: how many records, in two bytes, the most significant first, and then each record's bytes.
-ghost use Rattle.std.specs.Prelude.{◌≡◌, ◌<◌, length, IfOk, IfSome, MatchOption};
+ghost use Rattle.std.specs.Prelude.{◌≡◌, ℕ, ◌^◌, ◌<◌, List, ◌++◌, length, map, IfOk, IfSome, MatchOption};
+ghost use Rattle.signal.specs.Coded.{coded};
+ghost use Rattle.signal.specs.declared.record.SignalRecord.{SignalRecord};
 ghost use Rattle.patrol.specs.Reports.{report_bytes, told_bytes, Begins};
 
 use super::calls::MOST_CELLS;
@@ -29,6 +31,7 @@ pub(super) fn written(
 // The records of the first report of a text, once it has come whole, and what came after it.
 pub(super) fn first(text: &[u8]) -> Option<(&[[u8; RECORD]], &[u8])>
     ensures cases { MatchOption result (length text.now < told_bytes text.now) (λ r. Begins text.now r.0.now r.1.now) }
+    ensures back { (list : List SignalRecord) (rest : List ℕ) → length list < 2 ^ 16 → text.now ≡ report_bytes list ++ rest → MatchOption result ⊥ (λ r. (r.0.now ≡ map coded list) × (r.1.now ≡ rest)) }
     ensures less { IfSome result (λ r. length r.1.now < length text.now) }
 {
     let (count, rest) = text.split_first_chunk::<2>()?;
