@@ -17,11 +17,19 @@ use Rattle.patrol.specs.declared.event.Side.TheVariants.{Own, Leader}
 use Rattle.patrol.specs.declared.event.Undone.{Undone}
 use Rattle.patrol.specs.declared.event.Undone.TheVariants.{Refused, Fault}
 
--- a radio of this standing opens a link in a direction, as it is agreed
+-- the lists of both sets are as they were
+pub record SameLists (patroller leader patroller' leader' : Transceiver) : Type 0 where
+  pub patroller_shelf : patroller'.shelf ≡ patroller.shelf
+  pub patroller_cells : patroller'.cells ≡ patroller.cells
+  pub leader_shelf : leader'.shelf ≡ leader.shelf
+  pub leader_cells : leader'.cells ≡ leader.cells
+
+-- a radio opens a link in a direction, as it is agreed
 abbrev pub OpensLink : Radio → (direction : ℕ) → Agreed → Result ℕ Refusal → Radio → Type 0
 OpensLink r direction a answer r' =
     Opens (radio_meaning r) (radio_books r) (asked r.scratch (key_memory r) a.mode direction a.key.now a.start.now) answer (radio_books r')
 
+-- it ends one, where it gives what it answers
 abbrev pub EndsLink : Radio → (link : ℕ) → (out : List ℕ) → Result (List ℕ) Refusal → Books → Type 0
 EndsLink r link out answer b = Ends (radio_meaning r) (radio_books r) (lengths r.scratch (key_memory r) out) link answer b
 

@@ -1,7 +1,7 @@
 // A radio link from a patroller's set to the leader's. Text goes out in pieces and comes in in others, as a radio cuts it.
 ghost use Rattle.std.specs.Prelude.{◌≡◌};
 ghost use Rattle.bank.specs.Calls.{Strikes};
-ghost use Rattle.patrol.specs.Links.{OpensBoth, EndsOrStrikes};
+ghost use Rattle.patrol.specs.Links.{OpensBoth, EndsOrStrikes, SameLists};
 ghost use Rattle.patrol.specs.Radios.{radio_books};
 ghost use Rattle.bank_calls.specs.Calls.{Written};
 
@@ -62,7 +62,8 @@ impl Channel {
         sides: &mut Sides<'_>,
         agreed: &Agreed<'_>,
     ) -> Result<Channel, Broken>
-        ensures { OpensBoth place sides.old.patroller.now.radio sides.old.leader.now.radio agreed.now result sides.new.patroller.now.radio sides.new.leader.now.radio }
+        ensures outcome { OpensBoth place sides.old.patroller.now.radio sides.old.leader.now.radio agreed.now result sides.new.patroller.now.radio sides.new.leader.now.radio }
+        ensures lists { SameLists sides.old.patroller.now sides.old.leader.now sides.new.patroller.now sides.new.leader.now }
     {
         // a set is taken before its radio is lent: of a radio lent through both no proof is made
         let patroller = &mut *sides.patroller;
@@ -138,6 +139,7 @@ impl Channel {
     pub(super) fn strike(self, sides: &mut Sides<'_>)
         ensures patroller { Strikes (radio_books sides.old.patroller.now.radio) self.sends.link (radio_books sides.new.patroller.now.radio) }
         ensures leader { Strikes (radio_books sides.old.leader.now.radio) self.receives.link (radio_books sides.new.leader.now.radio) }
+        ensures lists { SameLists sides.old.patroller.now sides.old.leader.now sides.new.patroller.now sides.new.leader.now }
     {
         let Channel {
             place: _,
