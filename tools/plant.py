@@ -62,7 +62,7 @@ UNFIT = re.compile(
 
 def first_error(log):
     """The first error at a goal, or of the compiler; else the first function that is not proved. With it, whether it is a goal."""
-    errors = [line for line in log.splitlines() if re.search(r"error(\[|:(?!:))", line)]
+    errors = [line for line in log.splitlines() if re.search(r"\berror(\[|:(?!:))", line)]
     goals = [line for line in errors if not UNFIT.search(line)]
     others = [line for line in log.splitlines() if re.search(r"it is not proved|^fn .*: no(t| ).*proved?", line)]
     for line in goals + errors + others:

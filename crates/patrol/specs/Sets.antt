@@ -1,9 +1,9 @@
 -- How a set stands: its shelf and the records in its cell memory. Assumes nothing.
-use Rattle.std.specs.Prelude.{◌≡◌, ℕ, List, length, Result, Ok, Err, vec_items}
+use Rattle.std.specs.Prelude.{◌≡◌, ℕ, List, [], Some, None, length, replicate, Result, Ok, Err, vec_items}
 use Rattle.shelf.specs.Standing.{Standing, standing}
 use Rattle.shelf.specs.Items.{list}
-use Rattle.shelf.specs.Calls.{Sizing, gather_checks}
-use Rattle.refusal.specs.Checks.{Answers}
+use Rattle.shelf.specs.Calls.{Empty, size_checks, gather_checks}
+use Rattle.refusal.specs.Checks.{Answers, first}
 use Rattle.refusal.specs.declared.Refusal.{Refusal}
 use Rattle.signal.specs.declared.record.SignalRecord.{SignalRecord}
 use Rattle.patrol.specs.declared.set.Transceiver.{Transceiver}
@@ -17,16 +17,36 @@ stands t = standing t.shelf.book
 abbrev pub memory : Transceiver → List SignalRecord
 memory t = vec_items t.cells
 
--- the records of a list, in order
-abbrev pub listed : Transceiver → ℕ → List SignalRecord
-listed t c = list (stands t) (memory t) c
+-- nothing in a set has changed
+pub record Kept (t t' : Transceiver) : Type 0 where
+  pub shelf : t'.shelf ≡ t.shelf
+  pub cells : t'.cells ≡ t.cells
+  pub radio : t'.radio ≡ t.radio
 
--- n cells are asked for: the shelf's answer, or, where no memory is left, nothing changes
-abbrev pub Sized : Standing → ℕ → Result (Unit {0}) SizeError → Standing → Type 0
-Sized s n (Ok done) s' = Sizing s n (Ok done) s'
-Sized s n (Err (Refused refusal)) s' = Sizing s n (Err refusal) s'
-Sized s n (Err (Memory e)) s' = s' ≡ s
+-- what a cell has before its first record
+abbrev pub blank : SignalRecord
+blank = record { beacon = 0; distance = 0; strength = 0; second = 0 }
+
+-- n blank cells, all free; the radio is as it was
+pub record Given (n : ℕ) (t t' : Transceiver) : Type 0 where
+  pub shelf : Empty n (stands t')
+  pub cells : memory t' ≡ replicate n blank
+  pub radio : t'.radio ≡ t.radio
+
+-- n cells are asked for: the shelf's answer, and a refused set is as it was
+abbrev pub Sizes : Transceiver → ℕ → Result (Unit {0}) Refusal → Transceiver → Type 0
+Sizes t n r t' = Answers (size_checks (stands t).size n) r (λ _. Given n t t') (Kept t t')
+
+-- the same, or no memory is left
+abbrev pub Sized : Transceiver → ℕ → Result (Unit {0}) SizeError → Transceiver → Type 0
+Sized t n (Ok done) t' = Sizes t n (Ok done) t'
+Sized t n (Err (Refused refusal)) t' = Sizes t n (Err refusal) t'
+Sized t n (Err (Memory e)) t' = Kept t t'
 
 -- a whole list: refused as it would be with room for 256 records
 abbrev pub Whole : {V : Type 0} → (V → List SignalRecord) → Standing → List SignalRecord → ℕ → Result V Refusal → Type 0
 Whole items s cells c r = Answers (gather_checks s.size (length (s.chain c)) (length cells) c 256) r (λ v. items v ≡ list s cells c) (Unit {0})
+
+-- the same with no refusal: a list that is refused is told as empty
+abbrev pub whole_or_none : Standing → List SignalRecord → ℕ → List SignalRecord
+whole_or_none s cells c = elim (first (gather_checks s.size (length (s.chain c)) (length cells) c 256)) [ None ↦ list s cells c | Some refusal ↦ [] ]

@@ -1,4 +1,7 @@
 // What probers need of a set: each beacon once at its nearest, nearest first; then the lists.
+ghost use Rattle.std.specs.Prelude.{◌≡◌, IfOk};
+ghost use Rattle.patrol.specs.Sets.{stands, memory, whole_or_none};
+
 use super::set::Transceiver;
 use shelf::CHAINS;
 use signal::SignalRecord;
@@ -39,7 +42,9 @@ pub(super) fn lists(heap: Global, set: &Transceiver) -> Result<Vec<Listed>, Allo
 
 // A whole list of a set, in a vector of its own length. Every list that is asked for is there; what would be refused is told as
 // empty.
-fn whole(heap: Global, set: &Transceiver, list: usize) -> Result<Vec<SignalRecord>, AllocError> {
+fn whole(heap: Global, set: &Transceiver, list: usize) -> Result<Vec<SignalRecord>, AllocError>
+    ensures { IfOk result (λ records. records.items ≡ whole_or_none (stands set.now) (memory set.now) list) }
+{
     match set.whole(list) {
         Ok(records) => Vec::from_slice(heap, records.as_slice()),
         Err(_) => Ok(Vec::new(heap)),

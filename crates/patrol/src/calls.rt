@@ -1,8 +1,11 @@
 // What a set can be asked: each call answers as its shelf does.
 ghost use Rattle.std.specs.Prelude.{◌≡◌, ◌<◌, ◌≤◌, length};
+ghost use Rattle.ciphers.specs.Piles.{pile_meaning};
+ghost use Rattle.bank.specs.Past.{New};
 ghost use Rattle.shelf.specs.Standing.{free as free_cells};
 ghost use Rattle.shelf.specs.Calls.{Empty, Append, Read, Gather, Drop as Dropping};
 ghost use Rattle.patrol.specs.declared.calls.SizeError.TheVariants.{Refused, Memory};
+ghost use Rattle.patrol.specs.Radios.{radio_books, radio_meaning};
 ghost use Rattle.patrol.specs.Sets.{stands, memory, Sized, Whole};
 
 use super::radio::Radio;
@@ -45,7 +48,9 @@ impl From<AllocError> for SizeError {
 impl Transceiver {
     // A set without cells, its radio over a cipher.
     pub(super) fn new(heap: Global, cipher: Pile) -> Transceiver
-        ensures { Empty 0 (stands result) }
+        ensures shelf { Empty 0 (stands result) }
+        ensures cipher { radio_meaning result.radio ≡ pile_meaning cipher }
+        ensures links { New 0 (radio_books result.radio) }
     {
         Transceiver {
             shelf: Shelf::new(),
@@ -63,7 +68,7 @@ impl Transceiver {
 
     // Sets the number of cells, once, and brings their memory.
     pub(super) fn size(&mut self, heap: Global, n: usize) -> Result<(), SizeError>
-        ensures { Sized (stands self.old) n result (stands self.new) }
+        ensures { Sized self.old n result self.new }
     {
         // Memory comes first, so that a shelf is not sized where none is left; none is asked for where the shelf will refuse.
         let room = if n <= MOST_CELLS { n } else { 0 };
@@ -75,7 +80,8 @@ impl Transceiver {
 
     // Adds records at the end of a list: all of them or none.
     pub(super) fn hear(&mut self, list: usize, records: &[SignalRecord]) -> Result<(), Refusal>
-        ensures { Append (stands self.old) (memory self.old) list records.now result (stands self.new) (memory self.new) }
+        ensures outcome { Append (stands self.old) (memory self.old) list records.now result (stands self.new) (memory self.new) }
+        ensures radio { self.new.radio ≡ self.old.radio }
     {
         self.shelf.append(self.cells.as_mut_slice(), list, records)
     }
@@ -116,6 +122,7 @@ impl Transceiver {
     pub(super) fn lose(&mut self, list: usize) -> Result<(), Refusal>
         ensures outcome { Dropping (stands self.old) list result (stands self.new) }
         ensures memory { memory self.new ≡ memory self.old }
+        ensures radio { self.new.radio ≡ self.old.radio }
     {
         self.shelf.drop_chain(list)
     }

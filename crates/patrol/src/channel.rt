@@ -1,4 +1,8 @@
 // A radio link from a patroller's set to the leader's. Text goes out in pieces and comes in in others, as a radio cuts it.
+ghost use Rattle.std.specs.Prelude.{◌≡◌};
+ghost use Rattle.bank.specs.Calls.{Strikes};
+ghost use Rattle.patrol.specs.Links.{OpensBoth, EndsOrStrikes, SameLists};
+ghost use Rattle.patrol.specs.Radios.{radio_books};
 ghost use Rattle.bank_calls.specs.Calls.{Written};
 
 use super::radio::{Agreed, Radio};
@@ -57,7 +61,10 @@ impl Channel {
         place: usize,
         sides: &mut Sides<'_>,
         agreed: &Agreed<'_>,
-    ) -> Result<Channel, Broken> {
+    ) -> Result<Channel, Broken>
+        ensures outcome { OpensBoth place sides.old.patroller.now.radio sides.old.leader.now.radio agreed.now result sides.new.patroller.now.radio sides.new.leader.now.radio }
+        ensures lists { SameLists sides.old.patroller.now sides.old.leader.now sides.new.patroller.now sides.new.leader.now }
+    {
         // a set is taken before its radio is lent: of a radio lent through both no proof is made
         let patroller = &mut *sides.patroller;
         let leader = &mut *sides.leader;
@@ -80,7 +87,10 @@ impl Channel {
     }
 
     // The numbers of the link, the patroller's and the leader's.
-    pub(super) fn links(&self) -> (usize, usize) {
+    pub(super) fn links(&self) -> (usize, usize)
+        ensures patroller { result.0 ≡ self.now.sends.link }
+        ensures leader { result.1 ≡ self.now.receives.link }
+    {
         (self.sends.link(), self.receives.link())
     }
 
@@ -126,7 +136,11 @@ impl Channel {
     }
 
     // Closes the link at once on both sets; what was under way is lost.
-    pub(super) fn strike(self, sides: &mut Sides<'_>) {
+    pub(super) fn strike(self, sides: &mut Sides<'_>)
+        ensures patroller { Strikes (radio_books sides.old.patroller.now.radio) self.sends.link (radio_books sides.new.patroller.now.radio) }
+        ensures leader { Strikes (radio_books sides.old.leader.now.radio) self.receives.link (radio_books sides.new.leader.now.radio) }
+        ensures lists { SameLists sides.old.patroller.now sides.old.leader.now sides.new.patroller.now sides.new.leader.now }
+    {
         let Channel {
             place: _,
             sends,
@@ -157,7 +171,8 @@ fn received(
 
 // Ends a link; where that is refused, it is struck.
 fn ended(radio: &mut Radio, ticket: Ticket, out: &mut [u8]) -> Result<usize, Refusal>
-    ensures { Written out.old result out.new }
+    ensures outcome { EndsOrStrikes radio.old ticket.link out.old result out.new radio.new }
+    ensures output { Written out.old result out.new }
 {
     match radio.end(ticket, out) {
         Ok(given) => Ok(given),

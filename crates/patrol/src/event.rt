@@ -1,4 +1,8 @@
 // What comes of a step: accepted with counts, or refused, with what was free and what was needed.
+ghost use Rattle.std.specs.Prelude.{◌≡◌};
+ghost use Rattle.searchfile.specs.declared.fault.Fault.TheVariants.{Memory};
+ghost use Rattle.patrol.specs.declared.event.Undone.TheVariants.{Refused as RefusedStep, Fault as FaultyStep};
+
 use ciphers::Pile;
 use refusal::Refusal;
 use searchfile::Fault;
@@ -103,20 +107,26 @@ pub(super) enum Undone {
 
 // By hand: the derive asks for words, and this error is never printed.
 impl From<Refused> for Undone {
+    ghost from_gives = { λ refused e. e ≡ RefusedStep refused };
+
     fn from(refused: Refused) -> Undone {
         Undone::Refused(refused)
     }
 }
 
 impl From<Fault> for Undone {
+    ghost from_gives = { λ fault e. e ≡ FaultyStep fault };
+
     fn from(fault: Fault) -> Undone {
         Undone::Fault(fault)
     }
 }
 
 impl From<AllocError> for Undone {
+    ghost from_gives = { λ none e. e ≡ FaultyStep (Memory none) };
+
     fn from(e: AllocError) -> Undone {
-        Undone::Fault(Fault::from(e))
+        Undone::Fault(Fault::Memory(e))
     }
 }
 

@@ -1,6 +1,7 @@
 // A search under way: sets with their signal records on shelves and their radio links, and what comes of each step.
-// Promises that a set answers as its shelf does, and the bytes of the season's lines.
-// Rests on `shelf`, `bank_calls`, `signal`, `ciphers`, `searchfile` and `refusal`.
+// Promises that a set answers as its shelf does and its radio as its bank does, what a set tells of its own steps, and the bytes of
+// reports and of the season's lines.
+// Rests on `shelf`, `bank`, `bank_calls`, `signal`, `ciphers`, `searchfile` and `refusal`.
 #![tactic(auto)]
 
 mod board;

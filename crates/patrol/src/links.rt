@@ -1,4 +1,10 @@
 // The radio links of a search, each from a patroller's set to the leader's: opened, reported over, closed, lost.
+ghost use Rattle.std.specs.Prelude.{◌≡◌, ◌++◌, replicate, map, IfOk};
+ghost use Rattle.std.specs.Int.{w32, to_be_bytes};
+ghost use Rattle.std.specs.List.{range_with_len};
+ghost use Rattle.patrol.specs.Radios.{radio_books};
+ghost use Rattle.patrol.specs.Links.{undone_of, key_byte};
+
 use super::channel::{Broken, Channel, Sides, WIDEST};
 use super::course::{PLAIN, Search};
 use super::event::{Event, KeyRoom, Side, Undone};
@@ -25,14 +31,19 @@ impl<'a> Sides<'a> {
         Ok(Sides { leader, patroller })
     }
 
-    fn room(&self) -> KeyRoom {
+    fn room(&self) -> KeyRoom
+        ensures patroller { result.patroller ≡ (radio_books self.now.patroller.now.radio).room }
+        ensures leader { result.leader ≡ (radio_books self.now.leader.now.radio).room }
+    {
         let (patroller, _) = self.patroller.radio.count();
         let (leader, _) = self.leader.radio.count();
         KeyRoom { patroller, leader }
     }
 
     // What a broken call is told as.
-    fn undone(&self, broken: Broken, needed: Option<usize>) -> Undone {
+    fn undone(&self, broken: Broken, needed: Option<usize>) -> Undone
+        ensures { result ≡ undone_of self.now.patroller.now self.now.leader.now broken needed }
+    {
         match broken {
             Broken::ByPatroller(refusal) => {
                 Undone::from(self.patroller.unlinked(Side::Own, refusal, needed))
@@ -116,7 +127,7 @@ impl Search {
         let Some(channel) = channels.find(|channel| channel.place == place) else {
             return Err(sides.undone(Broken::ByPatroller(Refusal::Closed), None));
         };
-        let text = report::written(self.heap, records.as_slice())?;
+        let text = report::written(self.heap, &records)?;
         channel
             .send(&mut sides, text.as_slice())
             .map_err(|broken| sides.undone(broken, None))?;
@@ -196,7 +207,9 @@ fn taken(channels: &mut Vec<Channel>, place: usize) -> Option<Channel> {
 }
 
 // The key of link n of a search. Which keys sets use is for others to say; here they are made up, each from its number.
-fn made_key(heap: Global, n: u32, len: usize) -> Result<Vec<u8>, AllocError> {
+fn made_key(heap: Global, n: u32, len: usize) -> Result<Vec<u8>, AllocError>
+    ensures { IfOk result (λ key. key.items ≡ map (key_byte n) (range_with_len 0 len)) }
+{
     let [.., n] = n.to_be_bytes();
     (0..len)
         .map(|i| i.to_be_bytes()[7]
@@ -206,7 +219,9 @@ fn made_key(heap: Global, n: u32, len: usize) -> Result<Vec<u8>, AllocError> {
 }
 
 // The start block of link n: its number, at the end of a block.
-fn start_block(n: u32) -> [u8; WIDEST] {
+fn start_block(n: u32) -> [u8; WIDEST]
+    ensures { result ≡ replicate 28 0 ++ to_be_bytes w32 n }
+{
     let mut block = [0; WIDEST];
     block[WIDEST - 4..].copy_from_slice(&n.to_be_bytes());
     block

@@ -1,6 +1,11 @@
 // A set's radio: a bank of links over the cipher of its search, with the key cells behind it and a scratch.
-ghost use Rattle.std.specs.Prelude.{◌≤◌};
-ghost use Rattle.bank_calls.specs.Calls.{Written, reason};
+ghost use Rattle.std.specs.Prelude.{◌≡◌, ◌≤◌, [], vec_len, OnErr, IfErr};
+ghost use Rattle.ciphers.specs.Piles.{pile_meaning};
+ghost use Rattle.bank.specs.Books.{links};
+ghost use Rattle.bank.specs.Calls.{Opens, Puts, Ends, Strikes};
+ghost use Rattle.bank.specs.Past.{New};
+ghost use Rattle.bank_calls.specs.Calls.{Written, Wiped, asked, lengths, number, gave, reason};
+ghost use Rattle.patrol.specs.Radios.{key_memory, radio_books, radio_meaning, Sized};
 
 use super::calls::{MOST_CELLS, SizeError};
 use bank_calls::{Bank, Returned, Ticket};
@@ -47,7 +52,8 @@ pub(super) struct Agreed<'a> {
 
 // The bytes of a cipher's block.
 pub(super) fn width(cipher: Pile) -> usize
-    ensures { result ≤ 32 }
+    ensures is { result ≡ (pile_meaning cipher).width }
+    ensures small { result ≤ 32 }
 {
     match cipher {
         Pile::Narrow(kit) => width_of(&kit),
@@ -57,7 +63,11 @@ pub(super) fn width(cipher: Pile) -> usize
 
 impl Radio {
     // A radio without key cells.
-    pub(super) fn over(heap: Global, cipher: Pile) -> Radio {
+    pub(super) fn over(heap: Global, cipher: Pile) -> Radio
+        ensures cipher { radio_meaning result ≡ pile_meaning cipher }
+        ensures links { New 0 (radio_books result) }
+        ensures cells { key_memory result ≡ [] }
+    {
         Radio {
             links: match cipher {
                 Pile::Narrow(kit) => Links::Narrow(Bank::over(kit)),
@@ -69,7 +79,9 @@ impl Radio {
     }
 
     // Sets the number of key cells, once, and brings their memory.
-    pub(super) fn size(&mut self, heap: Global, n: usize) -> Result<(), SizeError> {
+    pub(super) fn size(&mut self, heap: Global, n: usize) -> Result<(), SizeError>
+        ensures { Sized self.old n result self.new }
+    {
         // as for a shelf: memory first, and none where the bank will refuse
         let room = if n <= MOST_CELLS { n } else { 0 };
         let cells = vec![in heap; [0; 16]; room]?;
@@ -79,12 +91,21 @@ impl Radio {
     }
 
     // How many key cells are free, and how many links are open.
-    pub(super) fn count(&self) -> (usize, usize) {
+    pub(super) fn count(&self) -> (usize, usize)
+        ensures free { result.0 ≡ (radio_books self.now).room }
+        ensures links { result.1 ≡ links (radio_books self.now) }
+    {
         of_bank!(&self.links, bank => bank.count())
     }
 
     // Opens a link in a direction, 0 to send and 1 to receive.
-    pub(super) fn open(&mut self, direction: u8, agreed: &Agreed<'_>) -> Result<Ticket, Refusal> {
+    pub(super) fn open(&mut self, direction: u8, agreed: &Agreed<'_>) -> Result<Ticket, Refusal>
+        ensures outcome { Opens (radio_meaning self.old) (radio_books self.old) (asked self.old.scratch (key_memory self.old) agreed.now.mode direction agreed.now.key.now agreed.now.start.now) (number result) (radio_books self.new) }
+        ensures scratch { Wiped self.old.scratch self.new.scratch }
+        ensures cells { vec_len self.new.cells ≡ vec_len self.old.cells }
+        ensures refused { OnErr result (key_memory self.new ≡ key_memory self.old) }
+        ensures cipher { radio_meaning self.new ≡ radio_meaning self.old }
+    {
         let Agreed { mode, key, start } = *agreed;
         let cells = self.cells.as_mut_slice();
         of_bank!(&mut self.links, bank => bank.open(&mut self.scratch, cells, mode, direction, key, start))
@@ -97,7 +118,11 @@ impl Radio {
         piece: &[u8],
         out: &mut [u8],
     ) -> Result<usize, Refusal>
-        ensures { Written out.old result out.new }
+        ensures outcome { Puts (radio_meaning self.old) (radio_books self.old) (lengths self.old.scratch (key_memory self.old) out.old) link piece.now (gave result out.new) (radio_books self.new) }
+        ensures scratch { Wiped self.old.scratch self.new.scratch }
+        ensures cells { self.new.cells ≡ self.old.cells }
+        ensures output { Written out.old result out.new }
+        ensures cipher { radio_meaning self.new ≡ radio_meaning self.old }
     {
         let cells = self.cells.as_slice();
         of_bank!(&mut self.links, bank => bank.put(&mut self.scratch, cells, link, piece, out))
@@ -105,14 +130,23 @@ impl Radio {
 
     // Ends a link; tells how many bytes at the front of `out` it still gives.
     pub(super) fn end(&mut self, ticket: Ticket, out: &mut [u8]) -> Result<usize, Returned>
-        ensures { Written out.old (reason result) out.new }
+        ensures outcome { Ends (radio_meaning self.old) (radio_books self.old) (lengths self.old.scratch (key_memory self.old) out.old) ticket.link (gave (reason result) out.new) (radio_books self.new) }
+        ensures scratch { Wiped self.old.scratch self.new.scratch }
+        ensures cells { self.new.cells ≡ self.old.cells }
+        ensures output { Written out.old (reason result) out.new }
+        ensures ticket { IfErr result (λ e. e.ticket ≡ ticket) }
+        ensures cipher { radio_meaning self.new ≡ radio_meaning self.old }
     {
         let cells = self.cells.as_slice();
         of_bank!(&mut self.links, bank => bank.end(&mut self.scratch, cells, ticket, out))
     }
 
     // Closes a link at once.
-    pub(super) fn strike(&mut self, ticket: Ticket) {
+    pub(super) fn strike(&mut self, ticket: Ticket)
+        ensures outcome { Strikes (radio_books self.old) ticket.link (radio_books self.new) }
+        ensures cells { self.new.cells ≡ self.old.cells }
+        ensures cipher { radio_meaning self.new ≡ radio_meaning self.old }
+    {
         of_bank!(&mut self.links, bank => bank.strike(ticket))
     }
 }
