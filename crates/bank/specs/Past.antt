@@ -38,22 +38,21 @@ cells_now m past = eight (λ i. need_if_open m (open_now past i))
 abbrev pub links_now : List Event → ℕ
 links_now past = eight (λ i. one_if_open (open_now past i))
 
+-- of each accepted put on link i, what f takes of its piece and the bytes that it gave, joined in order
+abbrev pub joined_puts : (List ℕ → List ℕ → List ℕ) → ℕ → List Event → List ℕ
+joined_puts f i [] = []
+joined_puts f i (opens a r ∷ past) = joined_puts f i past
+joined_puts f i (puts j piece (Ok bytes) ∷ past) = joined_puts f i past ++ cond (i == j) (f piece bytes) []
+joined_puts f i (puts j piece (Err r) ∷ past) = joined_puts f i past
+joined_puts f i (ends j r ∷ past) = joined_puts f i past
+joined_puts f i (strikes j ∷ past) = joined_puts f i past
+
 -- the bytes that link i took, and gave, in the puts of some calls
 abbrev pub took : ℕ → List Event → List ℕ
-took i [] = []
-took i (opens a r ∷ past) = took i past
-took i (puts j piece (Ok bytes) ∷ past) = took i past ++ cond (i == j) piece []
-took i (puts j piece (Err r) ∷ past) = took i past
-took i (ends j r ∷ past) = took i past
-took i (strikes j ∷ past) = took i past
+took i past = joined_puts (λ piece bytes. piece) i past
 
 abbrev pub gave : ℕ → List Event → List ℕ
-gave i [] = []
-gave i (opens a r ∷ past) = gave i past
-gave i (puts j piece (Ok bytes) ∷ past) = gave i past ++ cond (i == j) bytes []
-gave i (puts j piece (Err r) ∷ past) = gave i past
-gave i (ends j r ∷ past) = gave i past
-gave i (strikes j ∷ past) = gave i past
+gave i past = joined_puts (λ piece bytes. bytes) i past
 
 -- none of the calls closes link i
 abbrev pub Stays : ℕ → List Event → Type 0

@@ -1,5 +1,5 @@
 -- How a radio stands: the books of its bank, over the key cells that it lends it, and what its cipher means. Assumes nothing.
-use Rattle.std.specs.Prelude.{◌≡◌, ℕ, List, length, Result, Ok, Err, vec_items}
+use Rattle.std.specs.Prelude.{◌≡◌, ℕ, List, length, Result, vec_items}
 use Rattle.refusal.specs.Checks.{Answers}
 use Rattle.refusal.specs.declared.Refusal.{Refusal}
 use Rattle.shelf.specs.Calls.{size_checks}
@@ -8,8 +8,8 @@ use Rattle.ciphers.specs.Piles.{narrow, wide, coated_meaning}
 use Rattle.bank.specs.Books.{Books, Same}
 use Rattle.bank.specs.Past.{New}
 use Rattle.bank_calls.specs.Seen.{books}
+use Rattle.patrol.specs.Sets.{WithMemory}
 use Rattle.patrol.specs.declared.calls.SizeError.{SizeError}
-use Rattle.patrol.specs.declared.calls.SizeError.TheVariants.{Refused, Memory}
 use Rattle.patrol.specs.declared.radio.Links.{Links}
 use Rattle.patrol.specs.declared.radio.Links.TheVariants.{Narrow, Wide}
 use Rattle.patrol.specs.declared.radio.Radio.{Radio}
@@ -51,6 +51,4 @@ Sizes r n result r' = Answers (size_checks (radio_books r).size n) result (λ _.
 
 -- the same, or no memory is left
 abbrev pub Sized : Radio → ℕ → Result (Unit {0}) SizeError → Radio → Type 0
-Sized r n (Ok done) r' = Sizes r n (Ok done) r'
-Sized r n (Err (Refused refusal)) r' = Sizes r n (Err refusal) r'
-Sized r n (Err (Memory e)) r' = Rests r r'
+Sized r n result r' = WithMemory (λ answer. Sizes r n answer r') (Rests r r') result

@@ -37,11 +37,14 @@ pub record Given (n : ℕ) (t t' : Transceiver) : Type 0 where
 abbrev pub Sizes : Transceiver → ℕ → Result (Unit {0}) Refusal → Transceiver → Type 0
 Sizes t n r t' = Answers (size_checks (stands t).size n) r (λ _. Given n t t') (Kept t t')
 
--- the same, or no memory is left
+-- what is answered where memory is asked for too: the answer that `sizes` tells of, or none is left, and then `rests`
+abbrev pub WithMemory : (Result (Unit {0}) Refusal → Type 0) → Type 0 → Result (Unit {0}) SizeError → Type 0
+WithMemory sizes rests (Ok done) = sizes (Ok done)
+WithMemory sizes rests (Err (Refused refusal)) = sizes (Err refusal)
+WithMemory sizes rests (Err (Memory e)) = rests
+
 abbrev pub Sized : Transceiver → ℕ → Result (Unit {0}) SizeError → Transceiver → Type 0
-Sized t n (Ok done) t' = Sizes t n (Ok done) t'
-Sized t n (Err (Refused refusal)) t' = Sizes t n (Err refusal) t'
-Sized t n (Err (Memory e)) t' = Kept t t'
+Sized t n r t' = WithMemory (λ answer. Sizes t n answer t') (Kept t t') r
 
 -- a whole list: refused as it would be with room for 256 records
 abbrev pub Whole : {V : Type 0} → (V → List SignalRecord) → Standing → List SignalRecord → ℕ → Result V Refusal → Type 0
