@@ -79,11 +79,11 @@ impl ChainBook {
         requires { chain < 16 }
         ensures { result ≡ places self.now chain }
     {
-        let row = self.rows[chain];
+        // by field, as `link` writes them: to read the row whole would wait for those writes
         Cells {
             next: &self.next,
-            cell: row.first,
-            left: row.len,
+            cell: self.rows[chain].first,
+            left: self.rows[chain].len,
         }
     }
 

@@ -96,6 +96,10 @@ impl<T: Copy> Shelf<T> {
         ensures past { AddsRead (standing self.now.book) cells.now chain position result }
     {
         self.admit(chain, cells.len())?;
+        // before the walk, which would go through the whole chain first
+        if position >= self.book.count(chain) {
+            return Err(Refusal::Position);
+        }
         let cell = self
             .book
             .chain(chain)

@@ -14,6 +14,9 @@ use Rattle.shelf.proofs.shelf.Shelf.read.Goals as goal
 pub returns-in_err-admit-clause-past : goal.returns-in_err-admit-clause-past
 returns-in_err-admit-clause-past g c = adds_read _ _ _ _ _ (search rules)
 
+pub returns-then-position-count-clause-past : goal.returns-then-position-count-clause-past
+returns-then-position-count-clause-past g c = adds_read _ _ _ _ _ (search rules)
+
 pub returns-in_err-cell-clause-past : goal.returns-in_err-cell-clause-past
 returns-in_err-cell-clause-past g c =
     let b = c.args.self.now.book in
