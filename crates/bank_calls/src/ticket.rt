@@ -1,11 +1,12 @@
 // The ticket of an open link. It can't be let go unspent or spent twice: `end` and `strike` take it.
-ghost use Rattle.std.specs.Prelude.{◌≡◌};
+ghost use Rattle.std.specs.Prelude.{◌≡◌, ◌<◌};
 
 use refusal::Refusal;
 
-// The number of an open link, to be spent once.
+// The number of an open link, one of a bank's eight, to be spent once.
 pub struct Ticket {
     pub(super) link: usize,
+    ghost low: { link < 8 },
 }
 
 // A refused end: why, and the ticket back.
