@@ -2,6 +2,7 @@
 ghost use Rattle.std.specs.Prelude.{◌≡◌, IfOk};
 ghost use Rattle.patrol.specs.Sets.{stands, memory, whole_or_none};
 
+use super::calls::MOST_CELLS;
 use super::set::Transceiver;
 use shelf::CHAINS;
 use signal::SignalRecord;
@@ -45,8 +46,10 @@ pub(super) fn lists(heap: Global, set: &Transceiver) -> Result<Vec<Listed>, Allo
 fn whole(heap: Global, set: &Transceiver, list: usize) -> Result<Vec<SignalRecord>, AllocError>
     ensures { IfOk result (λ records. records.items ≡ whole_or_none (stands set.now) (memory set.now) list) }
 {
-    match set.whole(list) {
-        Ok(records) => Vec::from_slice(heap, records.as_slice()),
+    // not by `Transceiver::whole`, whose answer would be moved and copied once more
+    let mut room = [SignalRecord::default(); MOST_CELLS];
+    match set.gather(list, &mut room) {
+        Ok(count) => Vec::from_slice(heap, &room[..count]),
         Err(_) => Ok(Vec::new(heap)),
     }
 }

@@ -5,16 +5,23 @@ use super::event::{Event, Undone};
 use super::season;
 use super::set::Transceiver;
 use ciphers::{Base, Coat, Coated, Narrow, Pile};
-use indexmap::IndexMap;
 use itertools::Itertools;
 use searchfile::{Action, Fault, Role};
 use std::alloc::{AllocError, Global};
+use std::collections::BTreeMap;
 
 // The cipher of a search that names none.
 pub(super) const PLAIN: Pile = Pile::Narrow(Coated {
     coat: Coat::Bare,
     base: Base::One(Narrow::Aes),
 });
+
+// A set with its name.
+#[derive(Drop)]
+pub(super) struct Member {
+    pub(super) name: String,
+    pub(super) set: Transceiver,
+}
 
 // No `Drop`: the tickets of open links are spent where the search is over.
 pub struct Search {
@@ -23,8 +30,10 @@ pub struct Search {
     pub(super) title: Option<String>,
     // the cipher of all radios, once the file has told it
     pub(super) radio: Option<Pile>,
-    // By name, the leader first. A patroller's place is its number, and that of the leader's list for its reports.
-    pub(super) sets: IndexMap<String, Transceiver>,
+    // The leader first. A patroller's place is its number, and that of the leader's list for its reports.
+    pub(super) members: Vec<Member>,
+    // By a tree and no table of hashes: names come from the file, and each set is found as fast, whatever they are.
+    pub(super) places: BTreeMap<String, usize>,
     // at most one for each patroller, and no more than the leader's radio has links
     pub(super) channels: Vec<Channel>,
     // how many links were asked for: no two have the same key and start block
@@ -39,7 +48,8 @@ impl Search {
             heap,
             title: None,
             radio: None,
-            sets: IndexMap::new(heap),
+            members: Vec::new(heap),
+            places: BTreeMap::new(heap),
             channels: Vec::new(heap),
             opens: 0,
             second: 0,
@@ -51,7 +61,8 @@ impl Search {
         if self.title.is_some() {
             return Err(Fault::OneSearch);
         }
-        self.title = Some(spaced(self.heap, title)?);
+        // one of no words tells none
+        self.title = Some(spaced(self.heap, title)?).filter(|title| !title.is_empty());
         Ok(())
     }
 
@@ -60,7 +71,7 @@ impl Search {
         if self.title.is_none() {
             return Err(Fault::SearchFirst);
         }
-        if self.radio.is_some() || !self.sets.is_empty() {
+        if self.radio.is_some() || !self.members.is_empty() {
             return Err(Fault::OneRadio);
         }
         self.radio = Some(cipher);
@@ -80,12 +91,21 @@ impl Search {
         key_cells: Option<usize>,
     ) -> Result<Event, Fault> {
         self.may_join(role)?;
-        if self.sets.contains_key(name) {
+        if self.places.contains_key(name) {
             return Err(Fault::NewName);
         }
         let mut set = Transceiver::new(self.heap, self.cipher());
         let event = told(set.joined(self.heap, cells, key_cells))?;
-        self.sets.insert(String::from_str(self.heap, name)?, set)?;
+        // memory for both first, so that a set joins in both or in neither
+        let place = self.members.len();
+        let member = Member {
+            name: String::from_str(self.heap, name)?,
+            set,
+        };
+        self.members.reserve(1)?;
+        self.places
+            .insert(String::from_str(self.heap, name)?, place)?;
+        self.members.push_reserved(member);
         Ok(event)
     }
 
@@ -95,18 +115,18 @@ impl Search {
             return Err(Fault::SearchFirst);
         }
         match role {
-            Role::Leader if !self.sets.is_empty() => Err(Fault::OneLeader),
-            Role::Patroller if self.sets.is_empty() => Err(Fault::LeaderFirst),
+            Role::Leader if !self.members.is_empty() => Err(Fault::OneLeader),
+            Role::Patroller if self.members.is_empty() => Err(Fault::LeaderFirst),
             _ => Ok(()),
         }
     }
 
     // A set does something at a second, not before that of the step above.
     pub fn act(&mut self, second: u32, name: &str, action: &Action) -> Result<Event, Fault> {
-        if self.sets.is_empty() {
+        if self.members.is_empty() {
             return Err(Fault::LeaderFirst);
         }
-        let (place, _, _) = self.sets.get_full(name).ok_or(Fault::KnownName)?;
+        let place = *self.places.get(name).ok_or(Fault::KnownName)?;
         if second < self.second {
             return Err(Fault::LaterTime);
         }
@@ -137,19 +157,21 @@ impl Search {
     }
 
     fn set(&mut self, place: usize) -> Result<&mut Transceiver, Fault> {
-        self.sets.get_index_mut(place).ok_or(Fault::KnownName)
+        let member = self.members.get_mut(place).ok_or(Fault::KnownName)?;
+        Ok(&mut member.set)
     }
 
     // What probers need of a set.
     pub fn board(&self, name: &str) -> Result<Board, Fault> {
-        let set = self.sets.get(name).ok_or(Fault::KnownName)?;
-        Ok(Board::of(self.heap, set)?)
+        let place = *self.places.get(name).ok_or(Fault::KnownName)?;
+        let member = self.members.get(place).ok_or(Fault::KnownName)?;
+        Ok(Board::of(self.heap, &member.set)?)
     }
 
     // The leader's name, once the file has told it.
     pub fn leader(&self) -> Result<&str, Fault> {
-        let (name, _) = self.sets.first().ok_or(Fault::Ends)?;
-        Ok(name.as_str())
+        let leader = self.members.first().ok_or(Fault::Ends)?;
+        Ok(leader.name.as_str())
     }
 
     // Adds the season's lines of this search: every record that a set lists now, set by set.
@@ -157,10 +179,10 @@ impl Search {
         let Some(title) = &self.title else {
             return Ok(());
         };
-        for (name, set) in self.sets.iter() {
-            let lists = lists(self.heap, set)?;
+        for member in self.members.iter() {
+            let lists = lists(self.heap, &member.set)?;
             for record in lists.iter().flat_map(|listed| listed.records.iter()) {
-                let line = season::line(self.heap, title.as_str(), name.as_str(), *record)?;
+                let line = season::line(self.heap, title.as_str(), member.name.as_str(), *record)?;
                 text.push_str(line.as_str())?;
             }
         }

@@ -6,12 +6,11 @@ ghost use Rattle.patrol.specs.Radios.{radio_books};
 ghost use Rattle.patrol.specs.Links.{undone_of, key_byte};
 
 use super::channel::{Broken, Channel, Sides, WIDEST};
-use super::course::{PLAIN, Search};
+use super::course::{Member, PLAIN, Search};
 use super::event::{Event, KeyRoom, Side, Undone};
 use super::radio::{Agreed, width};
 use super::report;
 use super::set::Transceiver;
-use indexmap::IndexMap;
 use modes::Mode;
 use refusal::Refusal;
 use searchfile::Fault;
@@ -23,12 +22,14 @@ const LONGEST_KEY: usize = 256;
 
 impl<'a> Sides<'a> {
     // The leader's set and the one at a place.
-    fn of(sets: &'a mut IndexMap<String, Transceiver>, place: usize) -> Result<Sides<'a>, Fault> {
+    fn of(members: &'a mut [Member], place: usize) -> Result<Sides<'a>, Fault> {
         let after_leader = place.checked_sub(1).ok_or(Fault::PatrollerName)?;
-        let mut sets = sets.values_mut();
-        let leader = sets.next().ok_or(Fault::LeaderFirst)?;
-        let patroller = sets.nth(after_leader).ok_or(Fault::KnownName)?;
-        Ok(Sides { leader, patroller })
+        let (leader, patrollers) = members.split_first_mut().ok_or(Fault::LeaderFirst)?;
+        let patroller = patrollers.get_mut(after_leader).ok_or(Fault::KnownName)?;
+        Ok(Sides {
+            leader: &mut leader.set,
+            patroller: &mut patroller.set,
+        })
     }
 
     fn room(&self) -> KeyRoom
@@ -87,7 +88,7 @@ impl Search {
     pub(super) fn open(&mut self, place: usize, mode: u8, bytes: usize) -> Result<Event, Undone> {
         let cipher = self.cipher();
         let needed = cipher.need(bytes).ok();
-        let mut sides = Sides::of(&mut self.sets, place)?;
+        let mut sides = Sides::of(self.members.as_mut_slice(), place)?;
         if self.channels.iter().any(|channel| channel.place == place) {
             return Err(Undone::from(Fault::OneLink));
         }
@@ -119,7 +120,7 @@ impl Search {
 
     // A patroller's list goes over its link; what came whole goes onto the leader's list with the patroller's number.
     pub(super) fn report(&mut self, place: usize, list: usize) -> Result<Event, Undone> {
-        let mut sides = Sides::of(&mut self.sets, place)?;
+        let mut sides = Sides::of(self.members.as_mut_slice(), place)?;
         let records = sides.patroller.whole(list).map_err(|refusal| {
             sides.patroller.refused(Side::Own, refusal, None)
         })?;
@@ -143,7 +144,7 @@ impl Search {
 
     // A patroller's link ends, and what is still to come of its reports comes.
     pub(super) fn close(&mut self, place: usize) -> Result<Event, Undone> {
-        let mut sides = Sides::of(&mut self.sets, place)?;
+        let mut sides = Sides::of(self.members.as_mut_slice(), place)?;
         let Some(channel) = taken(&mut self.channels, place) else {
             return Err(sides.undone(Broken::ByPatroller(Refusal::Closed), None));
         };
@@ -163,7 +164,7 @@ impl Search {
 
     // A patroller is out of range: what is under way on its link is lost.
     pub(super) fn lose_link(&mut self, place: usize) -> Result<Event, Undone> {
-        let mut sides = Sides::of(&mut self.sets, place)?;
+        let mut sides = Sides::of(self.members.as_mut_slice(), place)?;
         let Some(channel) = taken(&mut self.channels, place) else {
             return Err(sides.undone(Broken::ByPatroller(Refusal::Closed), None));
         };
@@ -181,13 +182,14 @@ impl Search {
             heap,
             title: _,
             radio: _,
-            mut sets,
+            mut members,
+            places: _,
             mut channels,
             opens: _,
             second: _,
         } = self;
         while let Some(channel) = channels.pop() {
-            match Sides::of(&mut sets, channel.place) {
+            match Sides::of(members.as_mut_slice(), channel.place) {
                 Ok(mut sides) => channel.strike(&mut sides),
                 // does not come; a set without links takes any ticket
                 Err(_) => channel.strike(&mut Sides {

@@ -8,6 +8,7 @@ mod run;
 
 use options::{Asked, Options, Wrong};
 use run::Stop;
+use std::io::Read;
 use std::process::ExitCode;
 use std::{env, fs, io};
 
@@ -87,10 +88,21 @@ fn replaceable(rt: &HostRuntime, path: &str) -> Result<(), Stop> {
 
 // Whether a file is there that can be read and is neither empty nor a season's.
 fn is_another(rt: &HostRuntime, path: &str) -> bool {
-    fs::read(rt, path).is_ok_and(|old| {
+    beginning(rt, path).is_ok_and(|old| {
         let old = old.as_slice();
         !old.is_empty() && !old.starts_with(patrol::HEADING.as_bytes())
     })
+}
+
+// As much of a file as a season's first line has; none of what is no file, as a pipe, from which nothing may ever come.
+fn beginning(rt: &HostRuntime, path: &str) -> io::Result<Vec<u8>> {
+    let mut old = Vec::new(rt.alloc());
+    if fs::metadata(rt, path)?.is_file() {
+        let file = fs::open(rt, path)?;
+        file.take(patrol::HEADING.len() as u64)
+            .read_to_end(&mut old)?;
+    }
+    Ok(old)
 }
 
 // Writes a file beside the old one and then puts it in its place, so that a full disk takes nothing away.
