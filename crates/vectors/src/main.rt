@@ -40,6 +40,9 @@ fn take_line(heap: Global, trials: &mut Vec<Trial>, line: &str) -> Result<(), Fa
     match lines::parse(heap, line)? {
         Line::Blank => Ok(()),
         Line::Vector { cipher, name } => {
+            if let Some(trial) = trials.last_mut() {
+                trial.end();
+            }
             trials.push(Trial::begin(heap, cipher, name)?)?;
             Ok(())
         }

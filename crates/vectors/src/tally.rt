@@ -2,11 +2,13 @@
 // Promises nothing of its own.
 // Rests on the comparisons (compare).
 use compare::{Fault, Value, Way, hold};
-use std::alloc::{AllocError, Global};
-use std::collections::BTreeMap;
+use std::alloc::Global;
 use std::fmt;
 
-const KINDS: [Value; 9] = [
+const NUMBER: usize = 9;
+
+// In the order in which counts are told.
+const KINDS: [Value; NUMBER] = [
     Value::Schedule,
     Value::Word,
     Value::RoundKey,
@@ -18,21 +20,24 @@ const KINDS: [Value; 9] = [
     Value::Message(Way::Back),
 ];
 
-// A count for each kind from the beginning, so that counting can't fail.
+// A count for each kind, in their order: no map, whose memory each vector would keep.
 #[derive(Drop)]
 pub struct Tally {
-    counts: BTreeMap<Value, u64>,
+    counts: [u64; NUMBER],
 }
 
 impl Tally {
-    pub fn new(heap: Global) -> Result<Tally, AllocError> {
-        let counts = KINDS.iter().map(|value| (*value, 0)).collect(heap)?;
-        Ok(Tally { counts })
+    pub fn new() -> Tally {
+        Tally {
+            counts: [0; NUMBER],
+        }
     }
 
     pub fn count(&mut self, value: Value) {
-        if let Some(count) = self.counts.get_mut(&value) {
-            *count = count.saturating_add(1);
+        for (kind, count) in KINDS.iter().zip(self.counts.iter_mut()) {
+            if *kind == value {
+                *count = count.saturating_add(1);
+            }
         }
     }
 
@@ -52,7 +57,7 @@ impl Tally {
     // All of them.
     pub fn values(&self) -> u64 {
         self.counts
-            .values()
+            .iter()
             .fold(0, |all: u64, count| all.saturating_add(*count))
     }
 }
@@ -74,7 +79,10 @@ fn plural(value: Value) -> &'static str {
 
 impl fmt::Display for Tally {
     fn fmt<W: fmt::Write>(&self, f: &mut fmt::Formatter<W>) -> fmt::Result {
-        let counted = self.counts.iter().filter(|(_, count)| **count > 0);
+        let counted = KINDS
+            .iter()
+            .zip(self.counts.iter())
+            .filter(|(_, count)| **count > 0);
         for (i, (value, count)) in counted.enumerate() {
             if i > 0 {
                 f.write_str(", ")?;

@@ -4,6 +4,7 @@
 use crate::banks::Banks;
 use crate::expansion::{Column, column_of};
 use crate::lines::{Entry, KeyForm};
+use crate::messages::Message;
 use crate::steps::{Step, mixed_key, round_key};
 use crate::tally::Tally;
 use compare::{Cipher, Fault, Keyed, Value, Way};
@@ -19,7 +20,8 @@ pub struct Trial {
     // of no bytes before they are given: the call then refuses them, or the comparison differs
     text: Vec<u8>,
     state: Vec<u8>,
-    banks: Banks,
+    // made at the first message, since most vectors have none
+    banks: Option<Box<Banks>>,
     tally: Tally,
 }
 
@@ -36,9 +38,14 @@ impl Trial {
             keyed,
             text: Vec::new(heap),
             state: Vec::new(heap),
-            banks: Banks::of(heap, cipher)?,
-            tally: Tally::new(heap)?,
+            banks: None,
+            tally: Tally::new(),
         })
+    }
+
+    // Gives back the memory of the banks, once another vector begins.
+    pub fn end(&mut self) {
+        self.banks = None;
     }
 
     pub fn values(&self) -> u64 {
@@ -80,6 +87,18 @@ impl Trial {
         self.tally.hold(self.heap, Value::Word, &word, due)
     }
 
+    // Not inlined: every line would pay for the frame in which banks are made.
+    #[inline(never)]
+    fn hold_message(&mut self, message: &Message) -> Result<(), Fault> {
+        let mut banks = match self.banks.take() {
+            Some(banks) => banks,
+            None => Box::new(self.heap, Banks::of(self.heap, self.keyed.cipher)?)?,
+        };
+        let held = banks.hold(self.heap, message, &mut self.tally);
+        self.banks = Some(banks);
+        held
+    }
+
     // Takes in what a line gives, or compares what it asks for.
     pub fn take(&mut self, entry: Entry<'_>) -> Result<(), Fault> {
         match entry {
@@ -111,7 +130,7 @@ impl Trial {
                 self.text = text;
                 self.hold_answer(due.as_slice())
             }
-            Entry::Message(message) => self.banks.hold(self.heap, &message, &mut self.tally),
+            Entry::Message(message) => self.hold_message(&message),
         }
     }
 }
