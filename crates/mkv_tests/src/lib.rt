@@ -29,7 +29,7 @@ mod tests {
     ];
 
     fn wrong(length: usize) -> Refusal {
-        Refusal::from(KeyFault::here(length))
+        Refusal::Key(KeyFault { depth: 0, length })
     }
 
     // The cells that each length needs.
